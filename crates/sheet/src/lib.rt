@@ -1,0 +1,11 @@
+mod row;
+
+pub use row::Call;
+pub use row::Condition;
+pub use row::Head;
+pub use row::Inputs;
+pub use row::Keep;
+pub use row::Relation;
+pub use row::Row;
+pub use row::Send;
+pub use row::Test;
