@@ -1,5 +1,9 @@
+mod parts;
 mod row;
 
+pub use parts::read_inputs;
+pub use parts::read_relation;
+pub use parts::relation_code;
 pub use row::Call;
 pub use row::Condition;
 pub use row::Head;
