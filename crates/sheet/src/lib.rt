@@ -1,6 +1,9 @@
+mod borrowed;
 mod parts;
 mod row;
 
+pub use borrowed::RowBytes;
+pub use borrowed::read_row;
 pub use parts::read_inputs;
 pub use parts::read_relation;
 pub use parts::relation_code;

@@ -11,7 +11,7 @@ use fault::Refusal;
 use wire::Reader;
 
 // A number at an offset where no rule of the form allows it.
-fn strange(offset: usize) -> Fault<Offset>
+pub fn strange(offset: usize) -> Fault<Offset>
     ensures { λ r. ⌜ r ≡ faultAt Strange offset ⌝ }
 {
     Fault {

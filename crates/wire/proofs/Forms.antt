@@ -15,6 +15,7 @@ use Rattle.std.proofs.shelf.Tests.{true≢false, cases-lt, cases-eq, cond-true,
 use Rattle.fault.specs.declared.refusal.Refusal.{Refusal}
 use Rattle.fault.specs.declared.refusal.Refusal.the-variants.{EndsEarly, NotShortest}
 use Rattle.wire.specs.Numbers.{numeral, under}
+use Rattle.wire.proofs.Steps.{limit-some}
 use Rattle.wire.specs.Bytes.{groupsOf, bytesOf, Reads-back, One-form, Same-bytes}
 
 numeral-last : (left : ℕ) (first : Bool) (b : ℕ) (bs : List ℕ) → b < 128 → (b ≡ 0 → first ≡ true) → (left ≡ 0 → b ≤ 15)
@@ -119,3 +120,37 @@ same-bytes bs cs n p q e f =
     let x = one-form bs n (length bs) p e in
     let y = one-form cs n (length cs) q f in
     sym (take-all (length bs) bs (omega arith)) ∙ x ∙ sym y ∙ take-all (length cs) cs (omega arith)
+
+never-top : (first : Bool) (b : ℕ) (bs : List ℕ) (n k : ℕ) → b < 128 → 15 < b → numeral 0 first (b ∷ bs) ≡ Ok (n, k) → ⊥
+never-top first b bs n k h t e = never (rw (lt-ltb b 128 h, ne-eqb b 0 (omega arith), lt-ltb 15 b t) at e)
+
+-- A number that was read takes no more bytes than there are, and keeps within its groups.
+fits : (left : ℕ) (first : Bool) (bs : List ℕ) (n k : ℕ) → ((i : ℕ) → getD bs i 0 < 256) → numeral left first bs ≡ Ok (n, k)
+    → (k ≤ length bs) × (n < 16 * 128 ^ left)
+fits left first [] n k s e = absurd (never e)
+fits zero first (b ∷ bs) n k s e =
+    elim (cases-lt b 128) [
+      | inl h ↦
+          let p = last-value 0 first b bs n k h e in
+          elim (cases-lt 15 b) [
+            | inl t ↦ absurd (never-top first b bs n k h t e)
+            | inr t ↦ (omega (arith, p .1), omega (arith, p .0))
+          ]
+      | inr h ↦ absurd (never (rw (le-ltb b 128 h) at e))
+    ]
+fits (suc left) first (b ∷ bs) n k s e =
+    let w = pow-suc 128 left in
+    elim (cases-lt b 128) [
+      | inl h ↦
+          let p = last-value (suc left) first b bs n k h e in
+          (omega (arith, p .1), omega (arith, p .0, limit-some left))
+      | inr h ↦
+          let m : suc left - 1 ≡ left = omega arith in
+          let u = under-ok (b - 128) (numeral left false bs) n k (rw (le-ltb b 128 h, ne-eqb (suc left) 0 (omega arith), m) at e) in
+          let ih = fits left false bs (u .0) (u .1) (λ i. s (suc i)) (u .2) in
+          let top = s 0 in
+          (omega (arith, u .4, ih .0), omega (arith, u .3, ih .1))
+    ]
+
+pub number-fits : (bs : List ℕ) (n k : ℕ) → ((i : ℕ) → getD bs i 0 < 256) → numeral 4 true bs ≡ Ok (n, k) → (k ≤ length bs) × (n < 2 ^ 32)
+number-fits bs n k s e = fits 4 true bs n k s e

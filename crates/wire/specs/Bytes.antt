@@ -18,6 +18,11 @@ groupsOf (suc left) n = cond (ltb n 128) (n ∷ []) ((n % 128 + 128) ∷ groupsO
 abbrev pub bytesOf : ℕ → List ℕ
 bytesOf n = groupsOf 4 n
 
+-- The bytes of a list of numbers, one after the other.
+abbrev pub spelled : List ℕ → List ℕ
+spelled [] = []
+spelled (n ∷ ns) = bytesOf n ++ spelled ns
+
 -- A list of bytes: each is below 256.
 abbrev pub Bytes : List ℕ → Type 0
 Bytes bs = (i : ℕ) → getD bs i 0 < 256
