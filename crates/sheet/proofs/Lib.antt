@@ -1,2 +1,4 @@
 pub mod Follow
 pub mod Readers
+pub mod Conditions
+pub mod RowReaders

@@ -32,7 +32,7 @@ pub choose : {B : Type 0} {C : Type 0} (n k : ℕ) (x y : B) (z : B) → cond (e
 choose n k x y z e f g =
     elim (cases-eq n k) [ inl h ↦ f h (rw (eq-eqb n k h) at e) | inr h ↦ g (rw (ne-eqb n k h) at e) ]
 
-err-same : {A F : Type 0} {x y : F} → _≡_ {A = Result A F} (Err x) (Err y) → y ≡ x
+pub err-same : {A F : Type 0} {x y : F} → _≡_ {A = Result A F} (Err x) (Err y) → y ≡ x
 err-same e = cc
 
 module _ (num : ℕ → Result ℕ (Fault Offset)) (aft : ℕ → ℕ) where

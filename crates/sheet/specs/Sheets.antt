@@ -93,17 +93,18 @@ module _ (num : ℕ → Result ℕ (Fault Offset)) (aft : ℕ → ℕ) where
   someRows zero pos = Ok ([], pos)
   someRows (suc n) pos = andThen (oneRow pos) (λ r. andThen (someRows n (r .1)) (λ rs. Ok (r .0 ∷ rs .0, rs .1)))
 
-  -- The edition, which is 1, and the four numbers of the head.
-  abbrev pub oneHead : ℕ → Read Head
-  oneHead pos =
-      andThen (num pos) (λ edition.
-      cond (eqb edition 1)
-      (andThen (oneNumber num aft (aft pos)) (λ s.
+  -- The four numbers of the head.
+  abbrev pub headFields : ℕ → Read Head
+  headFields pos =
+      andThen (oneNumber num aft pos) (λ s.
       andThen (oneNumber num aft (s .1)) (λ v.
       andThen (oneNumber num aft (v .1)) (λ l.
       andThen (oneNumber num aft (l .1)) (λ n.
-      Ok (record { stations = s .0; variables = v .0; cycle = l .0; rows = n .0 }, n .1))))))
-      (strange pos))
+      Ok (record { stations = s .0; variables = v .0; cycle = l .0; rows = n .0 }, n .1)))))
+
+  -- The edition, which is 1, and the head.
+  abbrev pub oneHead : ℕ → Read Head
+  oneHead pos = andThen (num pos) (λ edition. cond (eqb edition 1) (headFields (aft pos)) (strange pos))
 
 -- The same in a list of bytes.
 abbrev pub conditionAt : List ℕ → ℕ → Read Condition
