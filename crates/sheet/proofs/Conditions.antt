@@ -84,24 +84,30 @@ module _ (num : ℕ → Result ℕ (Fault Offset)) (aft : ℕ → ℕ) where
     where
       go2 : (m1 : ℕ) (e1 : oneTest num aft (aft pos) ≡ Ok (a, m1)) → ((mid : ℕ) × (oneTest num aft (m1) ≡ Ok (b, mid)) × Rd mid (testsNumbers ([])) end) → oneCondition num aft pos ≡ Ok (Two a b, end)
       go2 m1 e1 (m2, e2, r) = then-to (num pos) _ 2 _ (h .0) (then-to (oneTest num aft (aft pos)) _ (a, m1) _ e1 (then-to (oneTest num aft (m1)) _ (b, m2) _ e2 (ap (λ (p : ℕ). Ok (Two a b, p)) r)))
+
       go1 : ((mid : ℕ) × (oneTest num aft (aft pos) ≡ Ok (a, mid)) × Rd mid (testsNumbers (b ∷ [])) end) → oneCondition num aft pos ≡ Ok (Two a b, end)
       go1 (m1, e1, r) = go2 m1 e1 (tests-parts m1 b ([]) end r)
   condition-back pos (Three a b c) end h = go1 (tests-parts (aft pos) a (b ∷ c ∷ []) end (h .1))
     where
       go3 : (m1 : ℕ) (e1 : oneTest num aft (aft pos) ≡ Ok (a, m1)) (m2 : ℕ) (e2 : oneTest num aft (m1) ≡ Ok (b, m2)) → ((mid : ℕ) × (oneTest num aft (m2) ≡ Ok (c, mid)) × Rd mid (testsNumbers ([])) end) → oneCondition num aft pos ≡ Ok (Three a b c, end)
       go3 m1 e1 m2 e2 (m3, e3, r) = then-to (num pos) _ 3 _ (h .0) (then-to (oneTest num aft (aft pos)) _ (a, m1) _ e1 (then-to (oneTest num aft (m1)) _ (b, m2) _ e2 (then-to (oneTest num aft (m2)) _ (c, m3) _ e3 (ap (λ (p : ℕ). Ok (Three a b c, p)) r))))
+
       go2 : (m1 : ℕ) (e1 : oneTest num aft (aft pos) ≡ Ok (a, m1)) → ((mid : ℕ) × (oneTest num aft (m1) ≡ Ok (b, mid)) × Rd mid (testsNumbers (c ∷ [])) end) → oneCondition num aft pos ≡ Ok (Three a b c, end)
       go2 m1 e1 (m2, e2, r) = go3 m1 e1 m2 e2 (tests-parts m2 c ([]) end r)
+
       go1 : ((mid : ℕ) × (oneTest num aft (aft pos) ≡ Ok (a, mid)) × Rd mid (testsNumbers (b ∷ c ∷ [])) end) → oneCondition num aft pos ≡ Ok (Three a b c, end)
       go1 (m1, e1, r) = go2 m1 e1 (tests-parts m1 b (c ∷ []) end r)
   condition-back pos (Four a b c d) end h = go1 (tests-parts (aft pos) a (b ∷ c ∷ d ∷ []) end (h .1))
     where
       go4 : (m1 : ℕ) (e1 : oneTest num aft (aft pos) ≡ Ok (a, m1)) (m2 : ℕ) (e2 : oneTest num aft (m1) ≡ Ok (b, m2)) (m3 : ℕ) (e3 : oneTest num aft (m2) ≡ Ok (c, m3)) → ((mid : ℕ) × (oneTest num aft (m3) ≡ Ok (d, mid)) × Rd mid (testsNumbers ([])) end) → oneCondition num aft pos ≡ Ok (Four a b c d, end)
       go4 m1 e1 m2 e2 m3 e3 (m4, e4, r) = then-to (num pos) _ 4 _ (h .0) (then-to (oneTest num aft (aft pos)) _ (a, m1) _ e1 (then-to (oneTest num aft (m1)) _ (b, m2) _ e2 (then-to (oneTest num aft (m2)) _ (c, m3) _ e3 (then-to (oneTest num aft (m3)) _ (d, m4) _ e4 (ap (λ (p : ℕ). Ok (Four a b c d, p)) r)))))
+
       go3 : (m1 : ℕ) (e1 : oneTest num aft (aft pos) ≡ Ok (a, m1)) (m2 : ℕ) (e2 : oneTest num aft (m1) ≡ Ok (b, m2)) → ((mid : ℕ) × (oneTest num aft (m2) ≡ Ok (c, mid)) × Rd mid (testsNumbers (d ∷ [])) end) → oneCondition num aft pos ≡ Ok (Four a b c d, end)
       go3 m1 e1 m2 e2 (m3, e3, r) = go4 m1 e1 m2 e2 m3 e3 (tests-parts m3 d ([]) end r)
+
       go2 : (m1 : ℕ) (e1 : oneTest num aft (aft pos) ≡ Ok (a, m1)) → ((mid : ℕ) × (oneTest num aft (m1) ≡ Ok (b, mid)) × Rd mid (testsNumbers (c ∷ d ∷ [])) end) → oneCondition num aft pos ≡ Ok (Four a b c d, end)
       go2 m1 e1 (m2, e2, r) = go3 m1 e1 m2 e2 (tests-parts m2 c (d ∷ []) end r)
+
       go1 : ((mid : ℕ) × (oneTest num aft (aft pos) ≡ Ok (a, mid)) × Rd mid (testsNumbers (b ∷ c ∷ d ∷ [])) end) → oneCondition num aft pos ≡ Ok (Four a b c d, end)
       go1 (m1, e1, r) = go2 m1 e1 (tests-parts m1 b (c ∷ d ∷ []) end r)
 

@@ -1,5 +1,6 @@
 mod borrowed;
 mod parts;
+mod reading;
 mod row;
 
 pub use borrowed::RowBytes;

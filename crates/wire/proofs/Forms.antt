@@ -154,3 +154,39 @@ fits (suc left) first (b ∷ bs) n k s e =
 
 pub number-fits : (bs : List ℕ) (n k : ℕ) → ((i : ℕ) → getD bs i 0 < 256) → numeral 4 true bs ≡ Ok (n, k) → (k ≤ length bs) × (n < 2 ^ 32)
 number-fits bs n k s e = fits 4 true bs n k s e
+
+-- A number is read from its own bytes alone.
+number-take : (left : ℕ) (first : Bool) (xs : List ℕ) (n k m : ℕ) → numeral left first xs ≡ Ok (n, k) → k ≤ m → numeral left first (take m xs) ≡ Ok (n, k)
+number-take left first [] n k m e l = absurd (never e)
+number-take left first (b ∷ bs) n k zero e l = absurd (go (numeral left first (b ∷ bs)) e (some left first b bs))
+  where
+    some : (left : ℕ) (first : Bool) (b : ℕ) (bs : List ℕ) → (n k : ℕ) → numeral left first (b ∷ bs) ≡ Ok (n, k) → 0 < k
+    some left first b bs n k e =
+        elim (cases-lt b 128) [
+          | inl h ↦ omega (arith, last-value left first b bs n k h e .1)
+          | inr h ↦ high left (rw (le-ltb b 128 h) at e)
+        ]
+      where
+        high : (left : ℕ) → cond (eqb left 0) (Err NotShortest) (under (b - 128) (numeral (left - 1) false bs)) ≡ Ok (n, k) → 0 < k
+        high zero q = absurd (never q)
+        high (suc left) q = omega (arith, under-ok (b - 128) _ n k (rw (ne-eqb (suc left) 0 (omega arith)) at q) .4)
+
+    go : (r : Result (ℕ × ℕ) Refusal) → r ≡ Ok (n, k) → ((n k : ℕ) → numeral left first (b ∷ bs) ≡ Ok (n, k) → 0 < k) → ⊥
+    go r q f = let p : 0 < k = f n k e in omega arith
+number-take zero first (b ∷ bs) n k (suc m) e l =
+    elim (cases-lt b 128) [
+      | inl h ↦ rw (lt-ltb b 128 h) (rw (lt-ltb b 128 h) at e)
+      | inr h ↦ absurd (never (rw (le-ltb b 128 h) at e))
+    ]
+number-take (suc left) first (b ∷ bs) n k (suc m) e l =
+    elim (cases-lt b 128) [
+      | inl h ↦ rw (lt-ltb b 128 h) (rw (lt-ltb b 128 h) at e)
+      | inr h ↦
+          let m1 : suc left - 1 ≡ left = omega arith in
+          let u = under-ok (b - 128) (numeral left false bs) n k (rw (le-ltb b 128 h, ne-eqb (suc left) 0 (omega arith), m1) at e) in
+          let ih = number-take left false bs (u .0) (u .1) m (u .2) (omega (arith, u .4)) in
+          numeral-more left first b (take m bs) _ h ih ∙ rw (sym (u .3), sym (u .4))
+    ]
+
+pub number-local : (xs : List ℕ) (n k m : ℕ) → numeral 4 true xs ≡ Ok (n, k) → k ≤ m → numeral 4 true (take m xs) ≡ Ok (n, k)
+number-local xs n k m e l = number-take 4 true xs n k m e l

@@ -6,7 +6,7 @@ use Prim.Native.Nat.{ℕ, zero, suc, _+_, _-_, _^_, _<_, _≤_}
 use native.Mathlib.Omega.{arith}
 use native.Mathlib.Nat.{add-zero}
 use lib.ListN.{length, take, drop, getD, length-append, length-take, length-drop, take-append-drop}
-use Rattle.std.proofs.shelf.Lists.{drop-drop, drop-at}
+use Rattle.std.proofs.shelf.Lists.{drop-drop, drop-at, drop-take}
 use lib.Seq.{getD-drop}
 use Rattle.std.specs.shelf.Lists.{All}
 use Rattle.std.specs.declared.result.Result.{Result}
@@ -16,7 +16,7 @@ use Rattle.fault.specs.declared.refusal.Refusal.{Refusal}
 use Rattle.fault.specs.declared.place.Offset.{Offset}
 use Rattle.wire.specs.Numbers.{numeral, valueOf, nextOf, numberAt, afterNumber, faultAt}
 use Rattle.wire.specs.Bytes.{bytesOf, spelled, Bytes}
-use Rattle.wire.proofs.Forms.{reads-back, one-form, number-fits}
+use Rattle.wire.proofs.Forms.{reads-back, one-form, number-fits, number-local}
 
 -- Reading number after number from `pos` gives the numbers `ns`, and leads to `end`.
 abbrev pub Reads : (ℕ → Result ℕ (Fault Offset)) → (ℕ → ℕ) → ℕ → List ℕ → ℕ → Type 0
@@ -93,7 +93,45 @@ pub reads-spelled : (bs : List ℕ) (pos : ℕ) (ns : List ℕ) (end : ℕ) → 
 reads-spelled bs pos [] end b h = (ap (λ (p : ℕ). drop p bs) h, sym h ∙ sym (add-zero pos), tt)
 reads-spelled bs pos (n ∷ ns) end b h =
     let f = number-spelled bs pos n b (h .0) in
-    let ih = reads-spelled bs (afterNumber bs pos) ns end b (h .1) in
-    ( f .0 ∙ ap (λ (xs : List ℕ). bytesOf n ++ xs) (ih .0) ∙ sym (append-assoc (bytesOf n) (spelled ns) (drop end bs)),
+    let ih = reads-spelled bs (afterNumber bs pos) ns end b (h .1) in (
+      f .0 ∙ ap (λ (xs : List ℕ). bytesOf n ++ xs) (ih .0) ∙ sym (append-assoc (bytesOf n) (spelled ns) (drop end bs)),
       omega (arith, ih .1, f .1, length-append (bytesOf n) (spelled ns)),
-      (f .2, ih .2) )
+      (f .2, ih .2),
+    )
+
+pub reads-onward : (bs : List ℕ) (pos : ℕ) (ns : List ℕ) (end : ℕ) → Reads (numberAt bs) (afterNumber bs) pos ns end → pos ≤ end
+reads-onward bs pos [] end h = omega arith
+reads-onward bs pos (n ∷ ns) end h =
+    go (read-number bs pos n (numeral 4 true (drop pos bs)) refl (h .0)) (reads-onward bs (afterNumber bs pos) ns end (h .1))
+  where
+    go : ((k : ℕ) × (numeral 4 true (drop pos bs) ≡ Ok (n, k)) × (afterNumber bs pos ≡ pos + k)) → afterNumber bs pos ≤ end → pos ≤ end
+    go (k, q, a) l = omega (arith, a)
+
+-- The bytes from one position up to another.
+abbrev pub cut : List ℕ → ℕ → ℕ → List ℕ
+cut bs start end = take (end - start) (drop start bs)
+
+-- The numbers that a part of the bytes holds are read from that part alone.
+local-from : (bs : List ℕ) (start pos : ℕ) (ns : List ℕ) (end : ℕ) → start ≤ pos → Reads (numberAt bs) (afterNumber bs) pos ns end
+    → Reads (numberAt (cut bs start end)) (afterNumber (cut bs start end)) (pos - start) ns (end - start)
+local-from bs start pos [] end s h = ap (λ (p : ℕ). p - start) h
+local-from bs start pos (n ∷ ns) end s h =
+    go (read-number bs pos n (numeral 4 true (drop pos bs)) refl (h .0)) (reads-onward bs (afterNumber bs pos) ns end (h .1))
+    (λ l. local-from bs start (afterNumber bs pos) ns end l (h .1))
+  where
+    go : ((k : ℕ) × (numeral 4 true (drop pos bs) ≡ Ok (n, k)) × (afterNumber bs pos ≡ pos + k)) → afterNumber bs pos ≤ end
+        → (start ≤ afterNumber bs pos → Reads (numberAt (cut bs start end)) (afterNumber (cut bs start end)) (afterNumber bs pos - start) ns (end - start))
+        → Reads (numberAt (cut bs start end)) (afterNumber (cut bs start end)) (pos - start) (n ∷ ns) (end - start)
+    go (k, q, a) l ih =
+        let f : end - start ≡ pos - start + (end - pos) = omega (arith, a) in
+        let p : start + (pos - start) ≡ pos = omega arith in
+        let c : drop (pos - start) (cut bs start end) ≡ take (end - pos) (drop pos bs) = rw (f, drop-take, drop-drop, p) in
+        let r : numeral 4 true (drop (pos - start) (cut bs start end)) ≡ Ok (n, k) = ap (numeral 4 true) c ∙ number-local (drop pos bs) n k (end - pos) q (omega (arith, a)) in
+        let t : afterNumber bs pos - start ≡ afterNumber (cut bs start end) (pos - start) = sym (ap (nextOf (pos - start)) r ∙ omega (arith, a)) in
+        (ap (valueOf (pos - start)) r, subst (λ (x : ℕ). Reads (numberAt (cut bs start end)) (afterNumber (cut bs start end)) x ns (end - start)) t (ih (omega (arith, a))))
+
+pub reads-local : (bs : List ℕ) (pos : ℕ) (ns : List ℕ) (end : ℕ) → Reads (numberAt bs) (afterNumber bs) pos ns end
+    → Reads (numberAt (cut bs pos end)) (afterNumber (cut bs pos end)) 0 ns (end - pos)
+reads-local bs pos ns end h =
+    let z : pos - pos ≡ 0 = omega arith in
+    subst (λ (x : ℕ). Reads (numberAt (cut bs pos end)) (afterNumber (cut bs pos end)) x ns (end - pos)) z (local-from bs pos pos ns end (omega arith) h)
