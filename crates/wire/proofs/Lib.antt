@@ -3,3 +3,4 @@ pub mod Forms
 pub mod Puts
 pub mod Spelled
 pub mod Faults
+pub mod Laid

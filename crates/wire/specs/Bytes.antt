@@ -51,12 +51,10 @@ Worked-numbers =
     × (numberAt (0xFF ∷ 0xFF ∷ 0xFF ∷ 0xFF ∷ 0x0F ∷ []) 0 ≡ Ok 4294967295)
     × (numberAt (0xFF ∷ 0xFF ∷ 0xFF ∷ 0xFF ∷ 0x10 ∷ []) 0 ≡ Err (faultAt NotShortest 0))
 
--- Where a number that is written at `at` ends, or how many bytes it needs, in a list of `room` bytes.
-abbrev pub endOf : ℕ → ℕ → ℕ → Result ℕ ℕ
-endOf room at n = cond (ltb room (at + length (bytesOf n))) (Err (length (bytesOf n))) (Ok (at + length (bytesOf n)))
+-- Where bytes that are put at `at` end, or how many they are, in a list of `room` bytes.
+abbrev pub endOf : ℕ → ℕ → List ℕ → Result ℕ ℕ
+endOf room at bs = cond (ltb room (at + length bs)) (Err (length bs)) (Ok (at + length bs))
 
--- The list after that.
-abbrev pub written : List ℕ → ℕ → ℕ → List ℕ
-written out at n =
-    cond (ltb (length out) (at + length (bytesOf n))) out
-    (take at out ++ (bytesOf n ++ drop (at + length (bytesOf n)) out))
+-- The list after that: as it was where there is too little room.
+abbrev pub placed : List ℕ → ℕ → List ℕ → List ℕ
+placed out at bs = cond (ltb (length out) (at + length bs)) out (take at out ++ (bs ++ drop (at + length bs) out))
