@@ -118,3 +118,6 @@ read-exactly bs room h rows b = ((λ e. exactly bs room h rows b (sheet-read bs 
 
 pub one-sheet-form : One-sheet-form
 one-sheet-form bs cs room more h rows b c e f = read-exactly bs room h rows b .0 e .2 ∙ sym (read-exactly cs more h rows c .0 f .2)
+
+pub form-read : (h : Head) (rows : List Row) (room : ℕ) → IsSheet h rows → length rows ≤ room → sheetIn (sheetForm h rows) room ≡ Ok (h, rows)
+form-read h rows room s fit = back (sheetForm h rows) room h rows s fit refl

@@ -6,3 +6,6 @@ pub mod Exact
 pub mod Offsets
 pub mod Decoding
 pub mod Gathered
+pub mod Sizes
+pub mod RowSizes
+pub mod Writes

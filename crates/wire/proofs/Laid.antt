@@ -37,20 +37,31 @@ placed-more out at xs ys h =
     let a : length (take at out) ≡ at = length-take at out ∙ omega arith in
     let f : length (take at out ++ xs) ≡ at + length xs = length-append (take at out) xs ∙ omega arith in
     let o : length (take at out ++ (xs ++ drop (at + length xs) out)) ≡ length out =
-        length-append (take at out) (xs ++ drop (at + length xs) out)
-        ∙ omega (arith, length-append xs (drop (at + length xs) out), length-drop (at + length xs) out) in
+    length-append (take at out) (xs ++ drop (at + length xs) out)
+    ∙ omega (arith, length-append xs (drop (at + length xs) out), length-drop (at + length xs) out) in
     let g = append-assoc (take at out) xs (drop (at + length xs) out) in
     let t : take (at + length xs) (take at out ++ (xs ++ drop (at + length xs) out)) ≡ take at out ++ xs =
-        ap (take (at + length xs)) (sym g) ∙ take-at (take at out ++ xs) (drop (at + length xs) out) (at + length xs) f in
+    ap (take (at + length xs)) (sym g) ∙ take-at (take at out ++ xs) (drop (at + length xs) out) (at + length xs) f in
     let d : drop (at + length xs) (take at out ++ (xs ++ drop (at + length xs) out)) ≡ drop (at + length xs) out =
-        ap (drop (at + length xs)) (sym g) ∙ drop-at (take at out ++ xs) (drop (at + length xs) out) (at + length xs) f in
+    ap (drop (at + length xs)) (sym g) ∙ drop-at (take at out ++ xs) (drop (at + length xs) out) (at + length xs) f in
     let e : drop (at + length xs + length ys) (take at out ++ (xs ++ drop (at + length xs) out)) ≡ drop (at + length (xs ++ ys)) out =
-        sym (drop-drop (length ys) (at + length xs) (take at out ++ (xs ++ drop (at + length xs) out)))
-        ∙ ap (drop (length ys)) d ∙ drop-drop (length ys) (at + length xs) out
-        ∙ ap (λ (k : ℕ). drop k out) (omega (arith, length-append xs ys)) in
+    sym (drop-drop (length ys) (at + length xs) (take at out ++ (xs ++ drop (at + length xs) out)))
+    ∙ ap (drop (length ys)) d ∙ drop-drop (length ys) (at + length xs) out
+    ∙ ap (λ (k : ℕ). drop k out) (omega (arith, length-append xs ys)) in
     rw (le-ltb (length (take at out ++ (xs ++ drop (at + length xs) out))) (at + length xs + length ys) (omega arith), t, e)
     (append-assoc (take at out) xs (ys ++ drop (at + length (xs ++ ys)) out)
     ∙ ap (λ (zs : List ℕ). take at out ++ zs) (sym (append-assoc xs ys (drop (at + length (xs ++ ys)) out))))
 
 pub nothing-placed : (out : List ℕ) (at : ℕ) → take at out ++ ([] ++ drop (at + 0) out) ≡ out
 nothing-placed out at = rw add-zero (take-append-drop at out)
+
+pub placed-room : (out : List ℕ) (at : ℕ) (xs : List ℕ) → at + length xs ≤ length out
+    → placed out at xs ≡ take at out ++ (xs ++ drop (at + length xs) out)
+placed-room out at xs h = rw (le-ltb (length out) (at + length xs) h)
+
+-- Two parts put one after the other.
+pub placed-two : (out : List ℕ) (at : ℕ) (xs ys mid last : List ℕ) → at + length xs + length ys ≤ length out
+    → mid ≡ placed out at xs → last ≡ placed mid (at + length xs) ys
+    → last ≡ take at out ++ ((xs ++ ys) ++ drop (at + length (xs ++ ys)) out)
+placed-two out at xs ys mid last h e f =
+    f ∙ ap (λ (zs : List ℕ). placed zs (at + length xs) ys) (e ∙ placed-room out at xs (omega arith)) ∙ placed-more out at xs ys h

@@ -31,9 +31,10 @@ loop-i-again c =
     let room : at + length xs + length ys ≤ length out = omega (arith, spelled-split ns i, spelled-first ns i (c .loop-i-test .taken), c .pre) in
     let f = c .put-fitting-next .ensures in
     let step : c .put-fitting-next .last .out ≡ placed (take at out ++ (xs ++ drop (at + length xs) out)) (at + length xs) ys =
-        f .bytes ∙ ap (λ (zs : List ℕ). placed zs (c .loop-i .next) ys) (c .loop-i .inv .1) ∙ ap (λ (k : ℕ). placed (take at out ++ (xs ++ drop (at + length xs) out)) k ys) (c .loop-i .inv .0) in
-    ( omega (arith, f .end, c .loop-i .inv .0, ap length e, length-append xs ys),
-      step ∙ placed-more out at xs ys room ∙ ap (λ (zs : List ℕ). take at out ++ (zs ++ drop (at + length zs) out)) (sym e) )
+    f .bytes ∙ ap (λ (zs : List ℕ). placed zs (c .loop-i .next) ys) (c .loop-i .inv .1) ∙ ap (λ (k : ℕ). placed (take at out ++ (xs ++ drop (at + length xs) out)) k ys) (c .loop-i .inv .0) in (
+      omega (arith, f .end, c .loop-i .inv .0, ap length e, length-append xs ys),
+      step ∙ placed-more out at xs ys room ∙ ap (λ (zs : List ℕ). take at out ++ (zs ++ drop (at + length zs) out)) (sym e),
+    )
 
 pub returns : need.returns
 returns c =
