@@ -1,0 +1,4 @@
+mod works;
+
+pub use works::Plant;
+pub use works::Words;
