@@ -1,2 +1,5 @@
 pub mod Model
 pub mod Replies
+pub mod Reckoner
+pub mod Panel
+pub mod Laws

@@ -1,4 +1,10 @@
+mod panel;
+mod reckoner;
 mod works;
 
+pub use panel::Panel;
+pub use panel::PanelPlant;
+pub use reckoner::Reckoner;
+pub use reckoner::ReckonerPlant;
 pub use works::Plant;
 pub use works::Words;
