@@ -2,4 +2,5 @@ pub mod Model
 pub mod Replies
 pub mod Reckoner
 pub mod Panel
+pub mod Script
 pub mod Laws

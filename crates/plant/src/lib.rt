@@ -1,10 +1,13 @@
 mod panel;
 mod reckoner;
+mod script;
 mod works;
 
 pub use panel::Panel;
 pub use panel::PanelPlant;
 pub use reckoner::Reckoner;
 pub use reckoner::ReckonerPlant;
+pub use script::Script;
+pub use script::ScriptPlant;
 pub use works::Plant;
 pub use works::Words;
