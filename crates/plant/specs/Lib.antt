@@ -4,3 +4,4 @@ pub mod Reckoner
 pub mod Panel
 pub mod Script
 pub mod Laws
+pub mod Order

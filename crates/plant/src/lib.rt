@@ -1,8 +1,10 @@
+mod order;
 mod panel;
 mod reckoner;
 mod script;
 mod works;
 
+pub use order::order_stands;
 pub use panel::Panel;
 pub use panel::PanelPlant;
 pub use reckoner::Reckoner;
