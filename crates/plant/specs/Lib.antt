@@ -5,3 +5,4 @@ pub mod Panel
 pub mod Script
 pub mod Laws
 pub mod Order
+pub mod Fit

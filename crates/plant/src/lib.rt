@@ -1,9 +1,11 @@
+mod fit;
 mod order;
 mod panel;
 mod reckoner;
 mod script;
 mod works;
 
+pub use fit::fit_rows;
 pub use order::order_stands;
 pub use panel::Panel;
 pub use panel::PanelPlant;
