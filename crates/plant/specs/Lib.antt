@@ -6,3 +6,4 @@ pub mod Script
 pub mod Laws
 pub mod Order
 pub mod Fit
+pub mod ScriptForm

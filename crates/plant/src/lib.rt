@@ -13,5 +13,6 @@ pub use reckoner::Reckoner;
 pub use reckoner::ReckonerPlant;
 pub use script::Script;
 pub use script::ScriptPlant;
+pub use script::scripts_stand;
 pub use works::Plant;
 pub use works::Words;

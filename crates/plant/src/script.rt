@@ -2,6 +2,7 @@ ghost use mathlib.Core.Path.{_≡_};
 ghost use denote.Ref.{now as held};
 ghost use Rattle.plant.specs.Laws.{script-apart};
 ghost use Rattle.plant.specs.Script.{script, scriptRead, mapOk, nextWord, laterWords, pairAt, afterPair, pairHere, pairsEnd, unusedBy, unusedFrom};
+ghost use Rattle.plant.specs.ScriptForm.{Script-back, Script-one-form};
 use crate::works::Plant;
 use crate::works::Words;
 use crate::works::unknown_work;
@@ -81,6 +82,14 @@ fn pairs_end(reader: &mut Reader, count: u32) -> Result<usize, Fault<Offset>>
         read_pair(reader)?;
     }
     Ok(reader.pos())
+}
+
+// A script is read back as it was written, and has one byte form.
+pub fn scripts_stand() -> u8
+    ensures back { λ _. ⌜ Script-back ⌝ }
+    ensures one { λ _. ⌜ Script-one-form ⌝ }
+{
+    0
 }
 
 impl<'a> Script<'a> {
