@@ -27,13 +27,13 @@ use Rattle.plant.specs.declared.script.Cursor.{Cursor}
 -- A pair of two numbers that were read or not, the second from where the first ended.
 second : (p q v : ℕ) (y : Result (ℕ × ℕ) Refusal) (k : ℕ) → p + k ≡ q
     → pairAnd (andThen (valueOf k y) (λ w. Ok (v, w))) (p + nextOf k y)
-      ≡ pairAnd (andThen (valueOf q y) (λ w. Ok (v, w))) (nextOf q y)
+    ≡ pairAnd (andThen (valueOf q y) (λ w. Ok (v, w))) (nextOf q y)
 second p q v (Ok wn) k e = ap (λ (n : ℕ). Some (v, wn .0, n)) (sym (add-assoc p k (wn .1)) ∙ ap (λ (m : ℕ). m + wn .1) e)
 second p q v (Err f) k e = refl
 
 first : (bs : List ℕ) (pos : ℕ) (x : Result (ℕ × ℕ) Refusal)
     → pairAnd (andThen (valueOf 0 x) (λ v. andThen (numberAt (drop pos bs) (nextOf 0 x)) (λ w. Ok (v, w)))) (pos + afterNumber (drop pos bs) (nextOf 0 x))
-      ≡ pairAnd (andThen (valueOf pos x) (λ v. andThen (numberAt bs (nextOf pos x)) (λ w. Ok (v, w)))) (afterNumber bs (nextOf pos x))
+    ≡ pairAnd (andThen (valueOf pos x) (λ v. andThen (numberAt bs (nextOf pos x)) (λ w. Ok (v, w)))) (afterNumber bs (nextOf pos x))
 first bs pos (Err f) = refl
 first bs pos (Ok vn) =
     rw (zero-add, drop-drop (vn .1) pos bs) (second pos (pos + vn .1) (vn .0) (numeral 4 true (drop (pos + vn .1) bs)) (vn .1) refl)
@@ -113,14 +113,14 @@ pairs-end (suc n) bs p = first (pairAt bs p) (pairs-end n bs (afterPair bs p))
   where
     rest : (v : ℕ × ℕ) (t : List (ℕ × ℕ)) (y : Result ℕ (Fault Offset))
         → andThen {A = List (ℕ × ℕ) × ℕ} {B = List (ℕ × ℕ) × ℕ} (andThen y (λ e. Ok (t, e))) (λ ps. Ok (v ∷ ps .0, ps .1))
-          ≡ andThen y (λ e. Ok (v ∷ t, e))
+        ≡ andThen y (λ e. Ok (v ∷ t, e))
     rest v t (Ok e) = refl
     rest v t (Err f) = refl
 
     first : (x : Result (ℕ × ℕ) (Fault Offset))
         → pairsAt n bs (afterPair bs p) ≡ andThen (pairsEnd n bs (afterPair bs p)) (λ e. Ok (unread n bs (afterPair bs p), e))
         → andThen {B = List (ℕ × ℕ) × ℕ} x (λ v. andThen (pairsAt n bs (afterPair bs p)) (λ ps. Ok (v ∷ ps .0, ps .1)))
-          ≡ andThen {B = List (ℕ × ℕ) × ℕ} (andThen x (λ _. pairsEnd n bs (afterPair bs p))) (λ e. Ok (readOn (pairAnd x (afterPair bs p)) (unread n bs), e))
+        ≡ andThen {B = List (ℕ × ℕ) × ℕ} (andThen x (λ _. pairsEnd n bs (afterPair bs p))) (λ e. Ok (readOn (pairAnd x (afterPair bs p)) (unread n bs), e))
     first (Ok v) ih =
         ap (λ (r : Result (List (ℕ × ℕ) × ℕ) (Fault Offset)). andThen {B = List (ℕ × ℕ) × ℕ} r (λ ps. Ok (v ∷ ps .0, ps .1))) ih
         ∙ rest v (unread n bs (afterPair bs p)) (pairsEnd n bs (afterPair bs p))
@@ -129,21 +129,21 @@ pairs-end (suc n) bs p = first (pairAt bs p) (pairs-end n bs (afterPair bs p))
 -- What is read once the count is.
 pub read-on : (bs ys : List ℕ) (n p q : ℕ) → ys ≡ bs → p ≡ 0 → Ok n ≡ numberAt ys p → q ≡ afterNumber ys p
     → scriptRead bs ≡ andThen (pairsEnd n bs q) (λ e.
-        andThen (cond (ltb e (length bs)) (Err (faultAt Trailing e)) (Ok (unread n bs q))) (λ ps. Ok (scriptAtFirst ps)))
+    andThen (cond (ltb e (length bs)) (Err (faultAt Trailing e)) (Ok (unread n bs q))) (λ ps. Ok (scriptAtFirst ps)))
 read-on bs ys n p q same start h k =
     ap₂ (λ (r : Result ℕ (Fault Offset)) (a : ℕ).
-      andThen {B = List (List ℕ)} (andThen r (λ m. andThen (pairsAt m bs a) (λ ps.
-      cond (ltb (ps .1) (length bs)) (Err (faultAt Trailing (ps .1))) (Ok (ps .0))))) (λ ps. Ok (scriptAtFirst ps)))
+    andThen {B = List (List ℕ)} (andThen r (λ m. andThen (pairsAt m bs a) (λ ps.
+    cond (ltb (ps .1) (length bs)) (Err (faultAt Trailing (ps .1))) (Ok (ps .0))))) (λ ps. Ok (scriptAtFirst ps)))
     (sym (h ∙ ap₂ numberAt same start)) (sym (k ∙ ap₂ afterNumber same start))
     ∙ ap (λ (r : Result (List (ℕ × ℕ) × ℕ) (Fault Offset)).
-      andThen {B = List (List ℕ)} (andThen r (λ ps.
-      cond (ltb (ps .1) (length bs)) (Err (faultAt Trailing (ps .1))) (Ok (ps .0)))) (λ ps. Ok (scriptAtFirst ps))) (pairs-end n bs q)
+    andThen {B = List (List ℕ)} (andThen r (λ ps.
+    cond (ltb (ps .1) (length bs)) (Err (faultAt Trailing (ps .1))) (Ok (ps .0)))) (λ ps. Ok (scriptAtFirst ps))) (pairs-end n bs q)
     ∙ last (pairsEnd n bs q)
   where
     last : (y : Result ℕ (Fault Offset))
         → andThen {B = List (List ℕ)} (andThen {A = List (ℕ × ℕ) × ℕ} (andThen y (λ e. Ok (unread n bs q, e))) (λ ps.
-          cond (ltb (ps .1) (length bs)) (Err (faultAt Trailing (ps .1))) (Ok (ps .0)))) (λ ps. Ok (scriptAtFirst ps))
-          ≡ andThen y (λ e. andThen (cond (ltb e (length bs)) (Err (faultAt Trailing e)) (Ok (unread n bs q))) (λ ps. Ok (scriptAtFirst ps)))
+        cond (ltb (ps .1) (length bs)) (Err (faultAt Trailing (ps .1))) (Ok (ps .0)))) (λ ps. Ok (scriptAtFirst ps))
+        ≡ andThen y (λ e. andThen (cond (ltb e (length bs)) (Err (faultAt Trailing e)) (Ok (unread n bs q))) (λ ps. Ok (scriptAtFirst ps)))
     last (Ok e) = refl
     last (Err f) = refl
 
@@ -155,7 +155,7 @@ module _ (bs ys zs : List ℕ) (n p q r : ℕ) (front : ys ≡ bs) (start : p �
   ends y h =
       read-on bs ys n p q front start count on
       ∙ ap (λ (x : Result ℕ (Fault Offset)). andThen x (λ e.
-        andThen (cond (ltb e (length bs)) (Err (faultAt Trailing e)) (Ok (unread n bs q))) (λ ps. Ok (scriptAtFirst ps))))
+      andThen (cond (ltb e (length bs)) (Err (faultAt Trailing e)) (Ok (unread n bs q))) (λ ps. Ok (scriptAtFirst ps))))
       (sym (h ∙ ap₂ (pairsEnd n) back (sym there)))
 
   pub read-stops : (f : Fault Offset) → Err f ≡ pairsEnd n zs r → Err f ≡ scriptRead bs

@@ -76,7 +76,7 @@ module _ {S R : Type 0} (next : S → Work → S) (reply : S → Work → R) (la
       go (inr ne) more =
           let p = more (rw (ne-eqb (v .station) (w .station) ne) at e) in
           let apart : (i : ℕ) → eqb (w .station) i ≡ true → eqb (v .station) i ≡ true → ⊥ =
-              λ i a b. ne (eqb-true (v .station) i b ∙ sym (eqb-true (w .station) i a)) in
+          λ i a b. ne (eqb-true (v .station) i b ∙ sym (eqb-true (w .station) i a)) in
           record {
             rest = v ∷ p .rest;
             state = λ s. p .state (next s v) ∙ ap (λ (u : S). leftBy next u (p .rest)) (law .swap s v w ne);

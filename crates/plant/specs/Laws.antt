@@ -29,13 +29,14 @@ reckoner-apart = record {
   answers = λ v w p q ne s. refl;
   orders = λ v w p q ne s. refl;
   limits = λ station work count h.
-      let p = and-parts (ltb station 8) _ h in
-      (ltb-true station 8 (p .0),
+      let p = and-parts (ltb station 8) _ h in (
+        ltb-true station 8 (p .0),
         either 1 work 1 count _ (omega arith) (p .1) (λ q.
-        either 2 work 2 count _ (omega arith) q (λ r.
-        either 3 work 2 count _ (omega arith) r (λ t.
-        either 4 work 2 count _ (omega arith) t (λ u.
-        only 5 work 0 count (omega arith) u)))));
+            either 2 work 2 count _ (omega arith) q (λ r.
+            either 3 work 2 count _ (omega arith) r (λ t.
+            either 4 work 2 count _ (omega arith) t (λ u.
+            only 5 work 0 count (omega arith) u)))),
+      );
 }
 
 pub panel-apart : Apart panel

@@ -60,4 +60,4 @@ AnyOrder {S} {R} next reply =
     → ((k : ℕ) → k < n → works k .station ≡ works j .station → j < k → begun k ≡ false)
     → begun j ≡ false → with-j j ≡ true → ((k : ℕ) → (k ≡ j → ⊥) → with-j k ≡ begun k)
     → (reply (afterBegun next works begun s n) (works j) ≡ reply (afterBegun next works all s j) (works j))
-      × (next (afterBegun next works begun s n) (works j) ≡ afterBegun next works with-j s n)
+    × (next (afterBegun next works begun s n) (works j) ≡ afterBegun next works with-j s n)

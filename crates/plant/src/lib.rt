@@ -3,6 +3,8 @@ mod order;
 mod panel;
 mod reckoner;
 mod script;
+#[cfg(test)]
+mod tests;
 mod works;
 
 pub use fit::fit_rows;

@@ -11,7 +11,7 @@ pub returns : need.returns
 returns c =
     let w = asked (c .args .station) (c .args .work) (c .args .inputs) in
     let known : knows script w ≡ true =
-        ap (script .known (c .args .station) (c .args .work)) (sym (c .count .ensures)) ∙ sym (c .if-not-knows .ensures tt) in
+    ap (script .known (c .args .station) (c .args .work)) (sym (c .count .ensures)) ∙ sym (c .if-not-knows .ensures tt) in
     record {
       answer = word-taken _ (c .args .self .now .from) w known (c .if-work-eq1 .left) _ (c .next-word-word .ensures .word);
       word = omega arith;
