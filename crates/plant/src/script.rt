@@ -1,5 +1,7 @@
 ghost use mathlib.Core.Path.{_≡_};
+ghost use Prim.Native.Nat.{_<_};
 ghost use denote.Ref.{now as held};
+ghost use lib.ListN.{length, set};
 ghost use Rattle.plant.specs.Laws.{script-apart};
 ghost use Rattle.plant.specs.Script.{script, scriptRead, mapOk, nextWord, laterWords, pairAt, afterPair, pairHere, pairsEnd, unusedBy, unusedFrom};
 ghost use Rattle.plant.specs.ScriptForm.{Script-back, Script-one-form};
@@ -47,7 +49,7 @@ fn pair_at(bytes: &[u8], pos: usize) -> Option<(u32, u32, usize)>
     let mut reader = Reader::new(&bytes[pos..]);
     match read_pair(&mut reader) {
         Err(_) => None,
-        Ok((station, word)) => Some((station, word, pos + reader.pos())),
+        Ok((owner, word)) => Some((owner, word, pos + reader.pos())),
     }
 }
 
@@ -72,6 +74,14 @@ fn next_word(bytes: &[u8], station: u32, from: Cursor) -> (u32, Cursor)
         }
     }
     (0, cursor)
+}
+
+// Lets a station read on from a cursor.
+fn put_cursor(from: &mut [Cursor], station: u32, cursor: Cursor)
+    requires { ⌜ station < length (now from) ⌝ }
+    ensures { λ _. ⌜ now (from .exit) ≡ set (now (from .entry)) station cursor ⌝ }
+{
+    from[station as usize] = cursor;
 }
 
 // Reads so many pairs, and says where they end.
@@ -137,7 +147,7 @@ pub impl<'a> Plant for Script<'a> as ScriptPlant {
             return Ok(inputs.first());
         }
         let (word, cursor) = next_word(self.bytes, station, self.from[station as usize]);
-        self.from[station as usize] = cursor;
+        put_cursor(&mut self.from, station, cursor);
         Ok(word)
     }
 }

@@ -1,3 +1,4 @@
+use native.Mathlib.Omega.{arith}
 use mathlib.Core.Path.{sym, ap, _∙_}
 use denote.Ref.{now}
 use Rattle.std.proofs.shelf.Results.{err-from-errBy}
@@ -16,10 +17,10 @@ pub returns-then-end-bytes : need.returns-then-end-bytes
 returns-then-end-bytes c =
     read-trails (c .args .bytes .now) _ _ _ _ _ _ (c .new-reader .ensures .bytes) (c .new-reader .ensures .start) (c .in-Continue-count .ensures tt .value)
     (c .pos-start .ensures ∙ c .number .ensures .next) (ap now (c .number .ensures .same) ∙ c .new-reader .ensures .bytes) (c .pos-start .ensures)
-    _ (c .in-Continue-end .ensures tt) (c .if-end-bytes .taken)
+    _ (c .in-Continue-end .ensures tt) (omega (arith, c .if-end-bytes .taken))
 
 pub returns : need.returns
 returns c =
     read-all (c .args .bytes .now) _ _ _ _ (c .pos-start .result) _ (c .new-reader .ensures .bytes) (c .new-reader .ensures .start) (c .in-Continue-count .ensures tt .value)
     (c .pos-start .ensures ∙ c .number .ensures .next) (ap now (c .number .ensures .same) ∙ c .new-reader .ensures .bytes) (c .pos-start .ensures)
-    _ (c .in-Continue-end .ensures tt) (c .if-end-bytes .left)
+    _ (c .in-Continue-end .ensures tt) (omega (arith, c .if-end-bytes .left))
