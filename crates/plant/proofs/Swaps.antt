@@ -108,3 +108,13 @@ module _ {S R : Type 0} (next : S → Work → S) (reply : S → Work → R) (la
 
 pub order-stands : (m : Model) → Apart m → OrderStands m
 order-stands m law s ws vs h = orders (leaves m) (replied m) (lawful m law) ws vs h s
+
+-- Of a known work: the state is the model's next, and replies that are alike are answers that are alike.
+pub known-left : (m : Model) (s : m .State) (w : Work) → knows m w ≡ true → leaves m s w ≡ m .next s w
+known-left m s w h = cond-true (knows m w) (m .next s w) s h
+
+pub known-told : (m : Model) (s t : m .State) (w : Work) → knows m w ≡ true → replied m s w ≡ replied m t w → m .answer s w ≡ m .answer t w
+known-told m s t w h e = go (rw h at e)
+  where
+    go : _≡_ {A = Result ℕ (Fault WorkPlace)} (Ok (m .answer s w)) (Ok (m .answer t w)) → m .answer s w ≡ m .answer t w
+    go q = cc
