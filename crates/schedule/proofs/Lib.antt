@@ -1,0 +1,17 @@
+pub mod Pick
+pub mod Order
+pub mod Valuation
+pub mod Blocks
+pub mod Wake
+pub mod Supplies
+pub mod Turns
+pub mod Whole
+pub mod Counted
+pub mod Size
+pub mod Apart
+pub mod Marked
+pub mod Kept
+pub mod Joined
+pub mod Openings
+pub mod Numbered
+pub mod Judged

@@ -1,0 +1,13 @@
+pub mod Pick
+pub mod Rows
+pub mod Plants
+pub mod Program
+pub mod Machine
+pub mod Cycles
+pub mod Requests
+pub mod Sends
+pub mod Marks
+pub mod Lawful
+pub mod Plain
+pub mod Faults
+pub mod Promise
