@@ -9,3 +9,6 @@ mod verdict;
 pub use verdict::judge;
 pub use verdict::verdict_stands;
 pub use verdict::worked_verdicts;
+
+#[cfg(test)]
+mod tests;
