@@ -1,0 +1,140 @@
+ghost use mathlib.Core.Path.{_≡_};
+ghost use mathlib.Core.Bool.{true, false};
+ghost use Prim.Native.Nat.{_<_, _≤_};
+ghost use lib.ListN.{set};
+ghost use Rattle.std.specs.Of.Vec.{vec-items, vec-len};
+ghost use Rattle.std.specs.Results.{Cases};
+ghost use Rattle.std.specs.declared.option.Option.the-variants.{Some, None};
+ghost use Rattle.sheet.specs.Rows.{headWithin};
+ghost use Rattle.judge.specs.Rules.{Rules};
+ghost use Rattle.judge.specs.Verdict.{verdict};
+ghost use Rattle.stages.specs.Sheets.{rowsIn, draftFault, faultFound, outside};
+use fault::BytesPlace;
+use fault::Fault;
+use fault::Refusal;
+use fault::RowPlace;
+use judge::judge;
+use sheet::Head;
+use sheet::Row;
+
+// A sheet that may be changed. Its list of rows was handed in, and `close` hands it back.
+#[derive(Drop)]
+pub struct Draft {
+    head: Head,
+    rows: Vec<Row>,
+    ghost limits: { headWithin head ≡ true },
+    ghost room: { head .rows ≤ vec-len rows },
+}
+
+// A sheet that the judge finds nothing in.
+#[derive(Drop)]
+pub struct Accepted {
+    draft: Draft,
+    ghost kept: { faultFound (draft .head) (vec-items (draft .rows)) ≡ false },
+}
+
+fn head_within(head: Head) -> bool
+    ensures { λ r. ⌜ r ≡ headWithin head ⌝ }
+{
+    (head.stations > 0 && head.stations < 9)
+        && (head.variables > 0 && head.variables < 65)
+        && ((head.cycle > 0 && head.cycle < 65536) && head.rows < 129)
+}
+
+impl Draft {
+    // A sheet with this head whose rows stand at the front of the list; the list comes back with a refusal.
+    pub fn of(head: Head, rows: Vec<Row>) -> Result<Draft, (Vec<Row>, Fault<BytesPlace>)>
+        ensures { λ r. ⌜ Cases r (λ d. (draftFault head (vec-len rows) ≡ None) × (d .head ≡ head) × (d .rows ≡ rows))
+            (λ e. (draftFault head (vec-len rows) ≡ Some (e .1)) × (e .0 ≡ rows)) ⌝ }
+    {
+        if rows.len() < head.rows as usize {
+            let fault = Fault {
+                refusal: Refusal::TooShort,
+                place: BytesPlace::Needed(u64::from(head.rows)),
+            };
+            return Err((rows, fault));
+        }
+        if !head_within(head) {
+            let fault = Fault {
+                refusal: Refusal::HeadOutside,
+                place: BytesPlace::Head,
+            };
+            return Err((rows, fault));
+        }
+        Ok(Draft { head, rows })
+    }
+
+    pub fn head(&self) -> Head
+        ensures { λ r. ⌜ r ≡ now (self .entry) .head ⌝ }
+    {
+        let Draft { head, .. } = self;
+        *head
+    }
+
+    // The rows of the sheet.
+    pub fn rows(&self) -> &[Row]
+        ensures { λ r. ⌜ now r ≡ rowsIn (now (self .entry) .head) (vec-items (now (self .entry) .rows)) ⌝ }
+    {
+        &self.rows.as_slice()[..self.head.rows as usize]
+    }
+
+    // Puts a row in the place of the one at `n`. Outside the sheet it is refused, and the draft stays as it is.
+    pub fn put(&mut self, n: usize, row: Row) -> Result<(), Fault<RowPlace>>
+        ensures { λ r. ⌜ Cases r
+            (λ _. (n < now (self .entry) .head .rows) × (now (self .exit) .head ≡ now (self .entry) .head)
+            × (vec-items (now (self .exit) .rows) ≡ set (vec-items (now (self .entry) .rows)) n row))
+            (λ e. (now (self .entry) .head .rows ≤ n) × (e ≡ outside n) × (now (self .exit) ≡ now (self .entry))) ⌝ }
+    {
+        if n >= self.head.rows as usize {
+            return Err(Fault {
+                refusal: Refusal::Outside,
+                place: RowPlace::Row(n),
+            });
+        }
+        self.rows[n] = row;
+        Ok(())
+    }
+
+    // Hands the list back.
+    pub fn close(self) -> Vec<Row>
+        ensures { λ r. ⌜ r ≡ self .rows ⌝ }
+    {
+        let Draft { head: _, rows } = self;
+        rows
+    }
+
+    // Accepts the sheet, or gives the draft back with what the judge found.
+    pub fn accept(self) -> Result<Accepted, (Draft, Fault<RowPlace>)>
+        ensures { λ r. ⌜ Cases r (λ a. (verdict (self .head) (rowsIn (self .head) (vec-items (self .rows))) ≡ None) × (a .draft ≡ self))
+            (λ e. (verdict (self .head) (rowsIn (self .head) (vec-items (self .rows))) ≡ Some (e .1)) × (e .0 ≡ self)) ⌝ }
+    {
+        match judge(&self.head, self.rows()) {
+            Some(fault) => Err((self, fault)),
+            None => Ok(Accepted { draft: self }),
+        }
+    }
+}
+
+impl Accepted {
+    pub fn head(&self) -> Head
+        ensures { λ r. ⌜ r ≡ now (self .entry) .draft .head ⌝ }
+    {
+        self.draft.head()
+    }
+
+    // The rows of the sheet, which keep the rules.
+    pub fn rows(&self) -> &[Row]
+        ensures same { λ r. ⌜ now r ≡ rowsIn (now (self .entry) .draft .head) (vec-items (now (self .entry) .draft .rows)) ⌝ }
+        ensures kept { λ r. ⌜ Rules (now (self .entry) .draft .head) (now r) ⌝ }
+    {
+        self.draft.rows()
+    }
+
+    // Makes the sheet a draft again.
+    pub fn reopen(self) -> Draft
+        ensures { λ r. ⌜ r ≡ self .draft ⌝ }
+    {
+        let Accepted { draft } = self;
+        draft
+    }
+}
