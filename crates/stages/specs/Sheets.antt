@@ -29,7 +29,7 @@ draftFault h room =
     cond (ltb room (h .rows)) (Some record { refusal = TooShort; place = Needed (h .rows) })
     (cond (headWithin h) None (Some record { refusal = HeadOutside; place = ofHead }))
 
--- The judge finds nothing in the rows of the sheet.
+-- Whether the judge finds a fault in the rows of the sheet.
 abbrev pub faultFound : Head → List Row → Bool
 faultFound h list = isSome (verdict h (rowsIn h list))
 
