@@ -26,7 +26,7 @@ use Rattle.sheet.specs.declared.row.Row.{Row}
 use Rattle.sheet.specs.declared.row.Row.the-variants.{Keep as keepRow, Call as callRow, Send as sendRow}
 use Rattle.sheet.specs.Rows.{testsOf, inputsOf, rowAt, testAt}
 use Rattle.judge.specs.Verdict.{provides, available, firstUnavailable, listens, needAt, testNeeds, inputNeeds, heardNeeds, listenerNeeds, needsOf}
-use Rattle.judge.specs.Rules.{Listens, Provides, Available, TestsAvailable, ReadsAvailable}
+use Rattle.judge.specs.Rules.{Listens, FieldsWithin, Provides, Available, TestsAvailable, ReadsAvailable}
 use Rattle.judge.specs.Right.{Met, FirstUnmet}
 use Rattle.judge.proofs.Decided.{provides-decides}
 use Rattle.judge.proofs.Searches.{some-decides}
@@ -134,20 +134,20 @@ module _ (rows : List Row) (r : ℕ) where
       (λ l. tests-from n (s .date) (s .condition) (f n (omega arith) (omega arith) l)))
       (heard-from s k (n + 1) (λ m h l x. f m (omega arith) (omega arith) x))
 
-  pub reads-to : (h : Head) (x : Row) → All (Met rows r) (needsOf h x) → ReadsAvailable h rows r x
-  reads-to h (keepRow k) a = tt
-  reads-to h (callRow c) a =
+  pub reads-to : (h : Head) (x : Row) → FieldsWithin h x → All (Met rows r) (needsOf h x) → ReadsAvailable rows r x
+  reads-to h (keepRow k) f a = tt
+  reads-to h (callRow c) f a =
       let p = all-split (Met rows r) (testNeeds (c .station) (c .date) (c .condition)) (inputNeeds c (c .inputs)) a in
       (tests-to (c .station) (c .date) (c .condition) (p .0), inputs-to c (c .inputs) (p .1))
-  reads-to h (sendRow s) a =
+  reads-to h (sendRow s) f a =
       let p = all-split (Met rows r) (testNeeds (s .station) (s .date) (s .condition)) (needAt (s .station) (s .date) (s .variable) (s .condition) ∷ listenerNeeds s (h .stations) 0) a in
-      (tests-to (s .station) (s .date) (s .condition) (p .0), (p .1 .0, λ n l x. heard-to s (h .stations) 0 (p .1 .1) n (omega arith) (omega arith) x))
+      (tests-to (s .station) (s .date) (s .condition) (p .0), (p .1 .0, λ n x. heard-to s (h .stations) 0 (p .1 .1) n (omega arith) (omega (arith, f .1 .1 .1 .0 n x)) x))
 
-  pub reads-from : (h : Head) (x : Row) → ReadsAvailable h rows r x → All (Met rows r) (needsOf h x)
+  pub reads-from : (h : Head) (x : Row) → ReadsAvailable rows r x → All (Met rows r) (needsOf h x)
   reads-from h (keepRow k) a = tt
   reads-from h (callRow c) a =
       all-append (Met rows r) (testNeeds (c .station) (c .date) (c .condition)) (inputNeeds c (c .inputs))
       (tests-from (c .station) (c .date) (c .condition) (a .0)) (inputs-from c (c .inputs) (a .1))
   reads-from h (sendRow s) a =
       all-append (Met rows r) (testNeeds (s .station) (s .date) (s .condition)) (needAt (s .station) (s .date) (s .variable) (s .condition) ∷ listenerNeeds s (h .stations) 0)
-      (tests-from (s .station) (s .date) (s .condition) (a .0)) (a .1 .0, heard-from s (h .stations) 0 (λ m h l x. a .1 .1 m (omega arith) x))
+      (tests-from (s .station) (s .date) (s .condition) (a .0)) (a .1 .0, heard-from s (h .stations) 0 (λ m h l x. a .1 .1 m x))

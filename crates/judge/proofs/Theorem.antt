@@ -106,7 +106,7 @@ module _ (h : Head) (rows : List Row) (r : ℕ) where
   after-all : (o : Option ℕ) → Within h rows r → TestedOnceAt rows r → WritersTo rows r r → NoOverlapTo rows r r
       → UnavailableAt rows r (needsOf h (rowAt rows r)) o → RowRight (asUnavailable o)
   after-all None w n t p a =
-      record { fields = w .0; placed = w .1; tested = n; writers = t; overlaps = p; reads = reads-to rows r h (rowAt rows r) a }
+      record { fields = w .0; placed = w .1; tested = n; writers = t; overlaps = p; reads = reads-to rows r h (rowAt rows r) (w .0) a }
   after-all (Some v) w n t p a =
       ((w, n, t, p, a), λ s. unmet (needsOf h (rowAt rows r)) v a (reads-from rows r h (rowAt rows r) (s .reads)))
 

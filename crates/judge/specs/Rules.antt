@@ -135,15 +135,15 @@ TestsAvailable rows r station date ts =
 
 -- What a row reads is available: at its station each test variable, and after all tests its inputs or the
 -- variable that it sends; at every listener each test variable likewise.
-abbrev pub ReadsAvailable : Head → List Row → ℕ → Row → Type 0
-ReadsAvailable h rows r (keepRow k) = Unit {0}
-ReadsAvailable h rows r (callRow c) =
+abbrev pub ReadsAvailable : List Row → ℕ → Row → Type 0
+ReadsAvailable rows r (keepRow k) = Unit {0}
+ReadsAvailable rows r (callRow c) =
     TestsAvailable rows r (c .station) (c .date) (testsOf (c .condition))
     × All (λ v. Available rows r (c .station) v (c .date) (testsOf (c .condition))) (inputsOf (c .inputs))
-ReadsAvailable h rows r (sendRow s) =
+ReadsAvailable rows r (sendRow s) =
     TestsAvailable rows r (s .station) (s .date) (testsOf (s .condition))
     × (Available rows r (s .station) (s .variable) (s .date) (testsOf (s .condition))
-    × ((n : ℕ) → n < h .stations → Listens (s .listeners) n → TestsAvailable rows r n (s .date) (testsOf (s .condition))))
+    × ((n : ℕ) → Listens (s .listeners) n → TestsAvailable rows r n (s .date) (testsOf (s .condition))))
 
 -- The row at `r` keeps the rules, below the rows above it.
 pub record RowRules (h : Head) (rows : List Row) (r : ℕ) : Type 0 where
@@ -152,7 +152,7 @@ pub record RowRules (h : Head) (rows : List Row) (r : ℕ) : Type 0 where
   pub tested : TestedOnce (rowAt rows r)
   pub writers : (u : ℕ) → u < r → SingleWriter (rowAt rows u) (rowAt rows r)
   pub overlaps : (u : ℕ) → u < r → NoOverlap (rowAt rows u) (rowAt rows r)
-  pub reads : ReadsAvailable h rows r (rowAt rows r)
+  pub reads : ReadsAvailable rows r (rowAt rows r)
 
 -- A sheet is accepted when every row keeps them.
 abbrev pub Rules : Head → List Row → Type 0
