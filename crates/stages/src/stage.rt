@@ -5,7 +5,9 @@ ghost use lib.ListN.{set};
 ghost use Rattle.std.specs.Of.Vec.{vec-items, vec-len};
 ghost use Rattle.std.specs.Results.{Cases};
 ghost use Rattle.std.specs.declared.option.Option.the-variants.{Some, None};
+ghost use Rattle.std.specs.declared.result.Result.the-variants.{Ok, Err};
 ghost use Rattle.sheet.specs.Rows.{headWithin};
+ghost use Rattle.sheet.specs.Sheets.{sheetIn, headOf, laidRows};
 ghost use Rattle.judge.specs.Rules.{Rules};
 ghost use Rattle.judge.specs.Verdict.{verdict};
 ghost use Rattle.stages.specs.Sheets.{rowsIn, draftFault, faultFound, outside};
@@ -33,14 +35,6 @@ pub struct Accepted {
     ghost kept: { faultFound (draft .head) (vec-items (draft .rows)) ≡ false },
 }
 
-fn head_within(head: Head) -> bool
-    ensures { λ r. ⌜ r ≡ headWithin head ⌝ }
-{
-    (head.stations > 0 && head.stations < 9)
-        && (head.variables > 0 && head.variables < 65)
-        && ((head.cycle > 0 && head.cycle < 65536) && head.rows < 129)
-}
-
 impl Draft {
     // A sheet with this head whose rows stand at the front of the list; the list comes back with a refusal.
     pub fn of(head: Head, rows: Vec<Row>) -> Result<Draft, (Vec<Row>, Fault<BytesPlace>)>
@@ -54,7 +48,7 @@ impl Draft {
             };
             return Err((rows, fault));
         }
-        if !head_within(head) {
+        if !head.within() {
             let fault = Fault {
                 refusal: Refusal::HeadOutside,
                 place: BytesPlace::Head,
@@ -62,6 +56,19 @@ impl Draft {
             return Err((rows, fault));
         }
         Ok(Draft { head, rows })
+    }
+
+    // Reads a sheet into the list. What the list holds beyond the sheet's rows stays, and with a refusal the
+    // list comes back as it was.
+    pub fn read(bytes: &[u8], mut rows: Vec<Row>) -> Result<Draft, (Vec<Row>, Fault<BytesPlace>)>
+        ensures { λ r. ⌜ Cases r
+            (λ d. (headOf (sheetIn (now (bytes .entry)) (vec-len rows)) ≡ Ok (d .head)) × (vec-items (d .rows) ≡ laidRows (sheetIn (now (bytes .entry)) (vec-len rows)) (vec-items rows)))
+            (λ e. (headOf (sheetIn (now (bytes .entry)) (vec-len rows)) ≡ Err (e .1)) × (vec-items (e .0) ≡ vec-items rows)) ⌝ }
+    {
+        match sheet::read(bytes, rows.as_mut_slice()) {
+            Ok(head) => Ok(Draft { head, rows }),
+            Err(fault) => Err((rows, fault)),
+        }
     }
 
     pub fn head(&self) -> Head
