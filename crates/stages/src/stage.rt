@@ -4,6 +4,7 @@ ghost use Prim.Native.Nat.{_<_, _≤_};
 ghost use lib.ListN.{set};
 ghost use Rattle.std.specs.Of.Vec.{vec-items, vec-len};
 ghost use Rattle.std.specs.Results.{Cases};
+ghost use Rattle.std.specs.Vec.{made};
 ghost use Rattle.std.specs.declared.option.Option.the-variants.{Some, None};
 ghost use Rattle.std.specs.declared.result.Result.the-variants.{Ok, Err};
 ghost use Rattle.sheet.specs.Rows.{headWithin};
@@ -33,6 +34,17 @@ pub struct Draft {
 pub struct Accepted {
     draft: Draft,
     ghost kept: { faultFound (draft .head) (vec-items (draft .rows)) ≡ false },
+}
+
+// Reads a sheet into a list, which keeps its length, and which a refusal leaves as it was.
+fn read_into(bytes: &[u8], rows: &mut Vec<Row>) -> Result<Head, Fault<BytesPlace>>
+    ensures head { λ r. ⌜ r ≡ headOf (sheetIn (now (bytes .entry)) (vec-len (now (rows .entry)))) ⌝ }
+    ensures list { λ _. ⌜ vec-items (now (rows .exit)) ≡ laidRows (sheetIn (now (bytes .entry)) (vec-len (now (rows .entry)))) (vec-items (now (rows .entry))) ⌝ }
+    ensures within { λ r. ⌜ made r (λ h. h .rows ≤ vec-len (now (rows .exit))) ⌝ }
+    ensures limits { λ r. ⌜ made r (λ h. headWithin h ≡ true) ⌝ }
+    ensures untouched { λ r. ⌜ Cases r (λ _. Unit {0}) (λ _. vec-items (now (rows .exit)) ≡ vec-items (now (rows .entry))) ⌝ }
+{
+    sheet::read(bytes, rows.as_mut_slice())
 }
 
 impl Draft {
@@ -65,7 +77,7 @@ impl Draft {
             (λ d. (headOf (sheetIn (now (bytes .entry)) (vec-len rows)) ≡ Ok (d .head)) × (vec-items (d .rows) ≡ laidRows (sheetIn (now (bytes .entry)) (vec-len rows)) (vec-items rows)))
             (λ e. (headOf (sheetIn (now (bytes .entry)) (vec-len rows)) ≡ Err (e .1)) × (vec-items (e .0) ≡ vec-items rows)) ⌝ }
     {
-        match sheet::read(bytes, rows.as_mut_slice()) {
+        match read_into(bytes, &mut rows) {
             Ok(head) => Ok(Draft { head, rows }),
             Err(fault) => Err((rows, fault)),
         }
@@ -78,11 +90,20 @@ impl Draft {
         *head
     }
 
+    // The rows at the front of the list, as many as the head says. Where the judge finds nothing in them,
+    // they keep the rules.
+    fn front(&self) -> &[Row]
+        ensures same { λ r. ⌜ now r ≡ rowsIn (now (self .entry) .head) (vec-items (now (self .entry) .rows)) ⌝ }
+        ensures kept { λ r. ⌜ (faultFound (now (self .entry) .head) (vec-items (now (self .entry) .rows)) ≡ false → Rules (now (self .entry) .head) (now r)) ⌝ }
+    {
+        &self.rows.as_slice()[..self.head.rows as usize]
+    }
+
     // The rows of the sheet.
     pub fn rows(&self) -> &[Row]
         ensures { λ r. ⌜ now r ≡ rowsIn (now (self .entry) .head) (vec-items (now (self .entry) .rows)) ⌝ }
     {
-        &self.rows.as_slice()[..self.head.rows as usize]
+        self.front()
     }
 
     // Puts a row in the place of the one at `n`. Outside the sheet it is refused, and the draft stays as it is.
@@ -134,7 +155,7 @@ impl Accepted {
         ensures same { λ r. ⌜ now r ≡ rowsIn (now (self .entry) .draft .head) (vec-items (now (self .entry) .draft .rows)) ⌝ }
         ensures kept { λ r. ⌜ Rules (now (self .entry) .draft .head) (now r) ⌝ }
     {
-        self.draft.rows()
+        self.draft.front()
     }
 
     // Makes the sheet a draft again.
