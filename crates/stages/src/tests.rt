@@ -68,3 +68,17 @@ fn a_short_list_or_a_bad_head_is_no_draft(rt: LibcRuntime) -> Result<(), Fail> {
     check_eq(fault.refusal.number(), 6)?;
     check_eq(rows.len(), 3)
 }
+
+#[test]
+fn a_draft_is_read_from_bytes(rt: LibcRuntime) -> Result<(), Fail> {
+    let bytes = [1, 1, 2, 10, 1, 1, 0, 5, 0, 0, 0, 2, 0, 9];
+    let Err((rows, fault)) = Draft::read(&bytes, list(&rt)?) else {
+        return Err(Fail::new("a byte follows the sheet"));
+    };
+    check_eq(fault.refusal.number(), 5)?;
+    let Ok(draft) = Draft::read(&bytes[..13], rows) else {
+        return Err(Fail::new("not a sheet"));
+    };
+    check_eq(draft.rows().len(), 1)?;
+    check_eq(draft.close().len(), 3)
+}
