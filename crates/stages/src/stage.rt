@@ -1,14 +1,14 @@
 ghost use mathlib.Core.Path.{_≡_};
 ghost use mathlib.Core.Bool.{true, false};
 ghost use Prim.Native.Nat.{_<_, _≤_};
-ghost use lib.ListN.{set};
+ghost use lib.ListN.{set, drop};
 ghost use Rattle.std.specs.Of.Vec.{vec-items, vec-len};
 ghost use Rattle.std.specs.Results.{Cases};
 ghost use Rattle.std.specs.Vec.{made};
 ghost use Rattle.std.specs.declared.option.Option.the-variants.{Some, None};
 ghost use Rattle.std.specs.declared.result.Result.the-variants.{Ok, Err};
 ghost use Rattle.sheet.specs.Rows.{headWithin};
-ghost use Rattle.sheet.specs.Sheets.{sheetIn, headOf, laidRows};
+ghost use Rattle.sheet.specs.Sheets.{sheetIn};
 ghost use Rattle.judge.specs.Rules.{Rules};
 ghost use Rattle.judge.specs.Verdict.{verdict};
 ghost use Rattle.stages.specs.Sheets.{rowsIn, draftFault, faultFound, outside};
@@ -38,11 +38,11 @@ pub struct Accepted {
 
 // Reads a sheet into a list, which keeps its length, and which a refusal leaves as it was.
 fn read_into(bytes: &[u8], rows: &mut Vec<Row>) -> Result<Head, Fault<BytesPlace>>
-    ensures head { λ r. ⌜ r ≡ headOf (sheetIn (now (bytes .entry)) (vec-len (now (rows .entry)))) ⌝ }
-    ensures list { λ _. ⌜ vec-items (now (rows .exit)) ≡ laidRows (sheetIn (now (bytes .entry)) (vec-len (now (rows .entry)))) (vec-items (now (rows .entry))) ⌝ }
+    ensures sheet { λ r. ⌜ Cases r
+        (λ h. (sheetIn (now (bytes .entry)) (vec-len (now (rows .entry))) ≡ Ok (h, rowsIn h (vec-items (now (rows .exit))))) × (drop (h .rows) (vec-items (now (rows .exit))) ≡ drop (h .rows) (vec-items (now (rows .entry)))))
+        (λ f. (sheetIn (now (bytes .entry)) (vec-len (now (rows .entry))) ≡ Err f) × (vec-items (now (rows .exit)) ≡ vec-items (now (rows .entry)))) ⌝ }
     ensures within { λ r. ⌜ made r (λ h. h .rows ≤ vec-len (now (rows .exit))) ⌝ }
     ensures limits { λ r. ⌜ made r (λ h. headWithin h ≡ true) ⌝ }
-    ensures untouched { λ r. ⌜ Cases r (λ _. Unit {0}) (λ _. vec-items (now (rows .exit)) ≡ vec-items (now (rows .entry))) ⌝ }
 {
     sheet::read(bytes, rows.as_mut_slice())
 }
@@ -74,8 +74,8 @@ impl Draft {
     // list comes back as it was.
     pub fn read(bytes: &[u8], mut rows: Vec<Row>) -> Result<Draft, (Vec<Row>, Fault<BytesPlace>)>
         ensures { λ r. ⌜ Cases r
-            (λ d. (headOf (sheetIn (now (bytes .entry)) (vec-len rows)) ≡ Ok (d .head)) × (vec-items (d .rows) ≡ laidRows (sheetIn (now (bytes .entry)) (vec-len rows)) (vec-items rows)))
-            (λ e. (headOf (sheetIn (now (bytes .entry)) (vec-len rows)) ≡ Err (e .1)) × (vec-items (e .0) ≡ vec-items rows)) ⌝ }
+            (λ d. (sheetIn (now (bytes .entry)) (vec-len rows) ≡ Ok (d .head, rowsIn (d .head) (vec-items (d .rows)))) × (drop (d .head .rows) (vec-items (d .rows)) ≡ drop (d .head .rows) (vec-items rows)))
+            (λ e. (sheetIn (now (bytes .entry)) (vec-len rows) ≡ Err (e .1)) × (vec-items (e .0) ≡ vec-items rows)) ⌝ }
     {
         match read_into(bytes, &mut rows) {
             Ok(head) => Ok(Draft { head, rows }),

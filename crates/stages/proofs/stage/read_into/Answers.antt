@@ -4,11 +4,12 @@ use Prim.Native.Nat.{ℕ, _≤_}
 use native.Mathlib.Omega.{arith}
 use lib.ListN.{length}
 use denote.Ref.{now}
-use Rattle.std.specs.Of.Vec.{vec-len}
+use Rattle.std.specs.Of.Vec.{vec-len, vec-items}
 use Rattle.std.proofs.shelf.Lists.{refilled-is}
-use Rattle.std.proofs.shelf.Results.{made-weaker, cases-weaker}
+use Rattle.std.proofs.shelf.Results.{made-weaker}
 use Rattle.sheet.specs.declared.row.Row.{Row}
 use Rattle.sheet.specs.Sheets.{sheetIn, headOf, laidRows}
+use Rattle.stages.proofs.Whole.{whole}
 use Rattle.stages.proofs.stage.read_into.Needs as need
 
 pub returns : need.returns
@@ -17,13 +18,13 @@ returns c =
     let l = c .as-mut-slice .ensures .len in
     let v = c .as-mut-slice .ensures .value in
     let bs = c .args .bytes .now in
-    let fill = refilled-is (c .args .rows .now) (c .read .last .rows) (omega arith) in
+    let rows = c .args .rows .now in
+    let head = e .head ∙ ap (λ (k : ℕ). headOf (sheetIn bs k)) l in
+    let list = refilled-is rows (c .read .last .rows) (omega arith)
+    ∙ e .list ∙ ap (λ (k : ℕ). laidRows (sheetIn bs k) (now (c .as-mut-slice .result))) l
+    ∙ ap (λ (xs : List Row). laidRows (sheetIn bs (vec-len rows)) xs) v in
     record {
-      head = e .head ∙ ap (λ (k : ℕ). headOf (sheetIn bs k)) l;
-      list = fill
-          ∙ e .list ∙ ap (λ (k : ℕ). laidRows (sheetIn bs k) (now (c .as-mut-slice .result))) l
-          ∙ ap (λ (xs : List Row). laidRows (sheetIn bs (vec-len (c .args .rows .now))) xs) v;
-      within = made-weaker (c .read .result) (λ h. h .rows ≤ length (now (c .as-mut-slice .result))) (λ h. h .rows ≤ vec-len (c .args .rows .now)) (λ h p. omega (arith, l)) (e .within);
+      sheet = whole bs (vec-len rows) (vec-items rows) _ (c .read .result) head list;
+      within = made-weaker (c .read .result) (λ h. h .rows ≤ length (now (c .as-mut-slice .result))) (λ h. h .rows ≤ vec-len rows) (λ h p. omega (arith, l)) (e .within);
       limits = e .limits;
-      untouched = cases-weaker (c .read .result) (e .untouched) (λ _ _. tt) (λ _ u. fill ∙ u ∙ v);
     }
