@@ -1,7 +1,7 @@
 ghost use mathlib.Core.Path.{_≡_};
 ghost use mathlib.Core.Bool.{true, false};
 ghost use Prim.Native.Nat.{_<_, _≤_};
-ghost use lib.ListN.{set, drop};
+ghost use lib.ListN.{length, set, drop};
 ghost use Rattle.std.specs.Of.Vec.{vec-items, vec-len};
 ghost use Rattle.std.specs.Results.{Cases};
 ghost use Rattle.std.specs.Vec.{made};
@@ -9,6 +9,7 @@ ghost use Rattle.std.specs.declared.option.Option.the-variants.{Some, None};
 ghost use Rattle.std.specs.declared.result.Result.the-variants.{Ok, Err};
 ghost use Rattle.sheet.specs.Rows.{headWithin};
 ghost use Rattle.sheet.specs.Sheets.{sheetIn};
+ghost use Rattle.sheet.specs.Written.{writtenEnd, writtenBytes};
 ghost use Rattle.judge.specs.Rules.{Rules};
 ghost use Rattle.judge.specs.Verdict.{verdict};
 ghost use Rattle.stages.specs.Sheets.{rowsIn, draftFault, faultFound, outside};
@@ -19,6 +20,8 @@ use fault::RowPlace;
 use judge::judge;
 use sheet::Head;
 use sheet::Row;
+use sheet::head_outside;
+use sheet::too_short;
 
 // A sheet that may be changed. Its list of rows was handed in, and `close` hands it back.
 #[derive(Drop)]
@@ -54,18 +57,10 @@ impl Draft {
             (λ e. (draftFault head (vec-len rows) ≡ Some (e .1)) × (e .0 ≡ rows)) ⌝ }
     {
         if rows.len() < head.rows as usize {
-            let fault = Fault {
-                refusal: Refusal::TooShort,
-                place: BytesPlace::Needed(u64::from(head.rows)),
-            };
-            return Err((rows, fault));
+            return Err((rows, too_short(u64::from(head.rows))));
         }
         if !head.within() {
-            let fault = Fault {
-                refusal: Refusal::HeadOutside,
-                place: BytesPlace::Head,
-            };
-            return Err((rows, fault));
+            return Err((rows, head_outside()));
         }
         Ok(Draft { head, rows })
     }
@@ -104,6 +99,15 @@ impl Draft {
         ensures { λ r. ⌜ now r ≡ rowsIn (now (self .entry) .head) (vec-items (now (self .entry) .rows)) ⌝ }
     {
         self.front()
+    }
+
+    // Writes the sheet to the front of `out`, whose rest stays, and says where it ends. Too little room is
+    // refused, and `out` is left as it was.
+    pub fn write(&self, out: &mut [u8]) -> Result<usize, Fault<BytesPlace>>
+        ensures end { λ r. ⌜ r ≡ writtenEnd (now (self .entry) .head) (rowsIn (now (self .entry) .head) (vec-items (now (self .entry) .rows))) (length (now (out .entry))) ⌝ }
+        ensures bytes { λ _. ⌜ now (out .exit) ≡ writtenBytes (now (self .entry) .head) (rowsIn (now (self .entry) .head) (vec-items (now (self .entry) .rows))) (now (out .entry)) ⌝ }
+    {
+        sheet::write(&self.head, self.rows(), out)
     }
 
     // Puts a row in the place of the one at `n`. Outside the sheet it is refused, and the draft stays as it is.
