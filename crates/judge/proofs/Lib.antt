@@ -1,0 +1,9 @@
+pub mod Aboves
+pub mod Availables
+pub mod Bitwise
+pub mod Decided
+pub mod Logic
+pub mod Searches
+pub mod Steps
+pub mod Theorem
+pub mod Unavailables

@@ -1,0 +1,7 @@
+mod stage;
+
+pub use stage::Accepted;
+pub use stage::Draft;
+
+#[cfg(test)]
+mod tests;
