@@ -52,7 +52,7 @@ pub enum Step {
 
 // How a flat list of steps is cut into programs: the length of program p stands at p. A station has two
 // programs, so those at and above twice the stations have length 0.
-#[derive(Clone, Copy, PartialEq)]
+#[derive(Clone, Copy)]
 pub struct Layout {
     pub stations: u32,
     pub lengths: [usize; 16],
