@@ -1,6 +1,12 @@
+mod layout;
 mod rules;
 mod step;
 
+pub use layout::check;
+pub use layout::line_program;
+pub use layout::program_count;
+pub use layout::station_of;
+pub use layout::work_program;
 pub use rules::StepRule;
 pub use rules::check_program;
 pub use step::Layout;
