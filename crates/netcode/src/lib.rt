@@ -1,7 +1,10 @@
+mod laws;
 mod layout;
 mod rules;
 mod step;
 
+pub use laws::programs_numbered;
+pub use laws::rules_stand;
 pub use layout::check;
 pub use layout::line_program;
 pub use layout::program_count;

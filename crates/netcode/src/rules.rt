@@ -46,7 +46,11 @@ impl Step {
                 inputs,
                 output,
                 duration,
-            } => row < 128 && work < 256 && inputs_within(inputs) && output < 64 && tick_count(duration),
+            } => row < 128
+                && work < 256
+                && inputs_within(inputs)
+                && output < 64
+                && tick_count(duration),
             Step::Send {
                 row,
                 variable,
