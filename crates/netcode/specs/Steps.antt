@@ -1,8 +1,7 @@
 use mathlib.Core.List.{List, [], _∷_, _++_}
 use Prim.Native.Nat.{ℕ}
 use lib.ListN.{length, getD}
-use Rattle.std.specs.shelf.Lists.{joined}
-use Rattle.wire.specs.Bytes.{bytesOf}
+use Rattle.wire.specs.Bytes.{spelled}
 use Rattle.sheet.specs.declared.row.Inputs.{Inputs}
 use Rattle.sheet.specs.declared.row.Relation.the-variants.{Equal}
 use Rattle.sheet.specs.Rows.{relationCode, inputsOf}
@@ -43,7 +42,7 @@ numbersOf step = codeOf step ∷ fieldsOf step
 
 -- The byte form of a step.
 abbrev pub stepBytes : Step → List ℕ
-stepBytes step = joined bytesOf (numbersOf step)
+stepBytes step = spelled (numbersOf step)
 
 -- What is read where a list of steps has ended: the first case with zeros.
 abbrev pub noStep : Step

@@ -8,6 +8,7 @@ pub use borrowed::read_row;
 pub use parts::read_inputs;
 pub use parts::read_relation;
 pub use parts::relation_code;
+pub use parts::strange;
 pub use row::Call;
 pub use row::Condition;
 pub use row::Head;
