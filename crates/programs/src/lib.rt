@@ -1,3 +1,4 @@
 mod decode;
+mod load;
 
 pub use decode::read_step;
