@@ -1,4 +1,6 @@
 mod decode;
+mod file;
 mod load;
 
 pub use decode::read_step;
+pub use file::read;

@@ -61,7 +61,7 @@ fn read_program(reader: &mut Reader, room: usize, before: usize, list: &mut [Ste
 
 // Reads the programs of the stations, and says their lengths; stores the steps as far as the list has
 // their places.
-fn read_programs(reader: &mut Reader, stations: u32, room: usize, list: &mut [Step]) -> Result<[usize; 16], Fault<BytesPlace>>
+pub fn read_programs(reader: &mut Reader, stations: u32, room: usize, list: &mut [Step]) -> Result<[usize; 16], Fault<BytesPlace>>
     ensures value { λ r. ⌜ leftPrograms r (now (list .exit)) (now (reader .exit) .pos) ≡ storingPrograms (replicate 16 0) 0 (now (list .entry)) 0 (somePrograms (numberAt (now (now (reader .entry) .bytes))) (afterNumber (now (now (reader .entry) .bytes))) room (programCount stations) 0 (now (reader .entry) .pos)) ⌝ }
     ensures same { λ _. ⌜ now (reader .exit) .bytes ≡ now (reader .entry) .bytes ⌝ }
 {
