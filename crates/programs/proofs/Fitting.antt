@@ -119,12 +119,6 @@ file-fits bs room = go (oneFile (numberAt bs) (afterNumber bs) room 0) (one-fits
     go (Ok f) h = either (Fits-file room) (ltb (f .1) (length bs)) _ _ tt h
     go (Err f) h = tt
 
--- A file that was refused is refused whatever the list, which stays.
-pub file-refused : (xs ys : List Step) (f : Fault BytesPlace) (r : Result File (Fault BytesPlace)) → Err f ≡ storingFile xs r
-    → (Err f ≡ layoutIn r) × (ys ≡ laidSteps r ys)
-file-refused xs ys f (Ok file) e = let z : _≡_ {A = ℕ} 0 1 = cc in absurd (omega arith)
-file-refused xs ys f (Err g) e = let q : f ≡ g = cc in (ap Err q, refl)
-
 abbrev layoutPart : Result (Layout × List Step) (Fault BytesPlace) → Result Layout (Fault BytesPlace)
 layoutPart (Ok p) = Ok (p .0)
 layoutPart (Err f) = Err f

@@ -1,2 +1,3 @@
 pub mod Stored
 pub mod Fitting
+pub mod Puttings

@@ -1,8 +1,8 @@
 use mathlib.Core.List.{List, [], _∷_, _++_, map}
-use mathlib.Core.Bool.{Bool, cond, _&&_}
-use Prim.Native.Nat.{ℕ, zero, suc, _+_}
+use mathlib.Core.Bool.{Bool, true, cond, _&&_}
+use Prim.Native.Nat.{ℕ, zero, suc, _+_, _^_}
 use lib.Dec.{eqb, ltb}
-use lib.ListN.{length, drop, set, replicate}
+use lib.ListN.{length, take, drop, replicate}
 use Rattle.std.specs.shelf.Lists.{joined}
 use Rattle.std.specs.declared.result.Result.{Result}
 use Rattle.std.specs.declared.result.Result.the-variants.{Ok, Err}
@@ -18,7 +18,7 @@ use Rattle.sheet.specs.Sheets.{raised, upThen, tooShort, headOutside}
 use Rattle.netcode.specs.declared.step.Step.{Step}
 use Rattle.netcode.specs.declared.step.Layout.{Layout}
 use Rattle.netcode.specs.Steps.{numbersOf}
-use Rattle.netcode.specs.Layouts.{programCount}
+use Rattle.netcode.specs.Layouts.{programCount, programsOf}
 use Rattle.programs.specs.Steps.{someSteps}
 
 -- The programs of a file, with the number of its stations.
@@ -99,3 +99,33 @@ fileNumbers file = 1 ∷ file .0 ∷ joined programNumbers (file .1)
 
 abbrev pub fileBytes : File → List ℕ
 fileBytes file = spelled (fileNumbers file)
+
+-- Numbers of 32 bits.
+abbrev pub allWords : List ℕ → Bool
+allWords [] = true
+allWords (n ∷ ns) = ltb n (2 ^ 32) && allWords ns
+
+-- A layout that a file can have: 1 to 8 stations, and lengths of 32 bits.
+abbrev pub layoutWithin : Layout → Bool
+layoutWithin layout = stationsWithin (layout .stations) && allWords (take (programCount (layout .stations)) (layout .lengths))
+
+-- The file of the programs in a list of steps.
+abbrev pub fileOf : Layout → List Step → File
+fileOf layout steps = (layout .stations, programsOf layout steps)
+
+-- How many bytes are written into a list of `room` bytes, or why none: a layout that no file can have, or
+-- too little room.
+abbrev pub endOfFile : Layout → List Step → ℕ → Result ℕ (Fault BytesPlace)
+endOfFile layout steps room =
+    cond (layoutWithin layout)
+    (cond (ltb room (length (fileBytes (fileOf layout steps))))
+    (tooShort (length (fileBytes (fileOf layout steps))))
+    (Ok (length (fileBytes (fileOf layout steps)))))
+    headOutside
+
+-- The bytes at the front of a list, whose rest stays; or the list as it was.
+abbrev pub writtenFile : Layout → List Step → List ℕ → List ℕ
+writtenFile layout steps out =
+    cond (layoutWithin layout)
+    (cond (ltb (length out) (length (fileBytes (fileOf layout steps)))) out (laidOn (fileBytes (fileOf layout steps)) out))
+    out

@@ -1,4 +1,5 @@
 mod decode;
+mod encode;
 mod file;
 mod load;
 
