@@ -1,0 +1,4 @@
+pub mod Steps
+pub mod Layouts
+pub mod Rules
+pub mod Laws

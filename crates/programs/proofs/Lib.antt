@@ -1,0 +1,5 @@
+pub mod Stored
+pub mod Fitting
+pub mod Puttings
+pub mod Lengths
+pub mod Saves
