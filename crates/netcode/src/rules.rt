@@ -87,9 +87,7 @@ impl Step {
 
 // A step keeps the rule of its program, whose length is the context: its fields are within their limits,
 // and the last step is HALT.
-pub impl Rule for Step as StepRule {
-    type Ctx = usize;
-
+pub impl Rule<usize> for Step as StepRule {
     type Why = ();
 
     ghost broken = { brokenStep };
