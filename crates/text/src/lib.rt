@@ -1,0 +1,5 @@
+mod refused;
+mod row;
+
+pub use refused::RefusedLine;
+pub use refused::RefusedLineDisplay;
