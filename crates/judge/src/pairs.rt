@@ -1,6 +1,4 @@
 ghost use mathlib.Core.Path.{_≡_};
-ghost use Prim.Native.Nat.{_<_};
-ghost use lib.ListN.{length};
 ghost use Rattle.judge.specs.Verdict.{twoWriters, overlapping, callsOverlap, sendsOverlap, firstWriter, firstOverlap};
 use crate::condition::excludes;
 use crate::fields::ends_at;

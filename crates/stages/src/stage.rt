@@ -9,7 +9,7 @@ ghost use Rattle.std.specs.declared.option.Option.the-variants.{Some, None};
 ghost use Rattle.std.specs.declared.result.Result.the-variants.{Ok, Err};
 ghost use Rattle.sheet.specs.Rows.{headWithin};
 ghost use Rattle.sheet.specs.Sheets.{sheetIn};
-ghost use Rattle.sheet.specs.Written.{writtenEnd, writtenBytes};
+ghost use Rattle.sheet.specs.Written.{describes, writtenEnd, writtenBytes};
 ghost use Rattle.judge.specs.Rules.{Rules};
 ghost use Rattle.judge.specs.Verdict.{verdict};
 ghost use Rattle.stages.specs.Sheets.{rowsIn, draftFault, faultFound, outside};
@@ -85,27 +85,30 @@ impl Draft {
         *head
     }
 
-    // The rows at the front of the list, as many as the head says. Where the judge finds nothing in them,
+    // The rows at the front of the list, which the head describes. Where the judge finds nothing in them,
     // they keep the rules.
     fn front(&self) -> &[Row]
         ensures same { λ r. ⌜ now r ≡ rowsIn (now (self .entry) .head) (vec-items (now (self .entry) .rows)) ⌝ }
         ensures kept { λ r. ⌜ (faultFound (now (self .entry) .head) (vec-items (now (self .entry) .rows)) ≡ false → Rules (now (self .entry) .head) (now r)) ⌝ }
+        ensures described { λ r. ⌜ describes (now (self .entry) .head) (now r) ≡ true ⌝ }
     {
         &self.rows.as_slice()[..self.head.rows as usize]
     }
 
-    // The rows of the sheet.
+    // The rows of the sheet, which its head describes.
     pub fn rows(&self) -> &[Row]
-        ensures { λ r. ⌜ now r ≡ rowsIn (now (self .entry) .head) (vec-items (now (self .entry) .rows)) ⌝ }
+        ensures same { λ r. ⌜ now r ≡ rowsIn (now (self .entry) .head) (vec-items (now (self .entry) .rows)) ⌝ }
+        ensures described { λ r. ⌜ describes (now (self .entry) .head) (now r) ≡ true ⌝ }
     {
         self.front()
     }
 
-    // Writes the sheet to the front of `out`, whose rest stays, and says where it ends. Too little room is
-    // refused, and `out` is left as it was.
+    // Writes the sheet to the front of `out`, whose rest stays, and says where it ends. Since the head
+    // describes the rows, only too little room is refused, and then `out` is left as it was.
     pub fn write(&self, out: &mut [u8]) -> Result<usize, Fault<BytesPlace>>
         ensures end { λ r. ⌜ r ≡ writtenEnd (now (self .entry) .head) (rowsIn (now (self .entry) .head) (vec-items (now (self .entry) .rows))) (length (now (out .entry))) ⌝ }
         ensures bytes { λ _. ⌜ now (out .exit) ≡ writtenBytes (now (self .entry) .head) (rowsIn (now (self .entry) .head) (vec-items (now (self .entry) .rows))) (now (out .entry)) ⌝ }
+        ensures described { λ _. ⌜ describes (now (self .entry) .head) (rowsIn (now (self .entry) .head) (vec-items (now (self .entry) .rows))) ≡ true ⌝ }
     {
         sheet::write(&self.head, self.rows(), out)
     }

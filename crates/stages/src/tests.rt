@@ -80,5 +80,13 @@ fn a_draft_is_read_from_bytes(rt: LibcRuntime) -> Result<(), Fail> {
         return Err(Fail::new("not a sheet"));
     };
     check_eq(draft.rows().len(), 1)?;
+    let mut out = [7; 14];
+    check_eq(draft.write(&mut out).is_ok(), true)?;
+    check(out[12] == 0 && out[13] == 7)?;
+    let mut short = [7; 12];
+    let Err(fault) = draft.write(&mut short) else {
+        return Err(Fail::new("no room"));
+    };
+    check(matches!(fault.place, BytesPlace::Needed(13)))?;
     check_eq(draft.close().len(), 3)
 }
