@@ -1,5 +1,12 @@
+mod listeners;
 mod refused;
 mod row;
 
 pub use refused::RefusedLine;
 pub use refused::RefusedLineDisplay;
+pub use row::FoundLine;
+pub use row::FoundLineDisplay;
+pub use row::HeadLine;
+pub use row::HeadLineDisplay;
+pub use row::RowLine;
+pub use row::RowLineDisplay;
