@@ -104,9 +104,11 @@ one-fits num aft room pos = edition (oneNumber num aft pos)
         → Fits-reading room (andThen r (λ ps. Ok ((n, ps .0), ps .1)))
     programs n (Ok ps) h = (omega (arith, h .0), omega (arith, h .1))
     programs n (Err f) h = tt
+
     stations : (r : Read ℕ) → Fits-reading room (upThen r (λ s. cond (stationsWithin (s .0)) (andThen (somePrograms num aft room (programCount (s .0)) 0 (s .1)) (λ ps. Ok ((s .0, ps .0), ps .1))) headOutside))
     stations (Ok s) = either (Fits-reading room) (stationsWithin (s .0)) _ _ (programs (s .0) (somePrograms num aft room (programCount (s .0)) 0 (s .1)) (programs-fit num aft room (programCount (s .0)) 0 (s .1) (omega arith))) tt
     stations (Err f) = tt
+
     edition : (r : Read ℕ) → Fits-reading room (upThen r (λ e. cond (eqb (e .0) 1) (upThen (oneNumber num aft (e .1)) (λ s. cond (stationsWithin (s .0)) (andThen (somePrograms num aft room (programCount (s .0)) 0 (s .1)) (λ ps. Ok ((s .0, ps .0), ps .1))) headOutside)) (Err (raised (faultAt Strange pos)))))
     edition (Ok e) = either (Fits-reading room) (eqb (e .0) 1) _ _ (stations (oneNumber num aft (e .1))) tt
     edition (Err f) = tt

@@ -13,7 +13,13 @@ use sheet::relation_code;
 use wire::put_number;
 
 // The numbers that a CALL is written as, and how many they are.
-fn call_numbers(row: u32, work: u32, inputs: Inputs, output: u32, duration: u32) -> ([u32; 8], usize)
+fn call_numbers(
+    row: u32,
+    work: u32,
+    inputs: Inputs,
+    output: u32,
+    duration: u32,
+) -> ([u32; 8], usize)
     ensures numbers { λ r. ⌜ take (r .1) (r .0) ≡ numbersOf (Call row work inputs output duration) ⌝ }
     ensures few { λ r. ⌜ r .1 ≤ 8 ⌝ }
 {
@@ -35,7 +41,10 @@ fn step_numbers(step: Step) -> ([u32; 8], usize)
             relation,
             word,
             address,
-        } => ([0, variable, relation_code(relation), word, address, 0, 0, 0], 5),
+        } => (
+            [0, variable, relation_code(relation), word, address, 0, 0, 0],
+            5,
+        ),
         Step::Future { ticks, address } => ([1, ticks, address, 0, 0, 0, 0, 0], 3),
         Step::Halt => ([2, 0, 0, 0, 0, 0, 0, 0], 1),
         Step::Call {

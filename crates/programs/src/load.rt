@@ -28,7 +28,12 @@ fn put(list: &mut [Step], at: usize, step: Step)
 }
 
 // Reads `count` steps, and puts them in the places of the list from `at` on, so far as it has them.
-fn read_steps(reader: &mut Reader, count: u32, list: &mut [Step], at: usize) -> Result<(), Fault<Offset>>
+fn read_steps(
+    reader: &mut Reader,
+    count: u32,
+    list: &mut [Step],
+    at: usize,
+) -> Result<(), Fault<Offset>>
     requires { ⌜ at + count < 2 ^ 64 ⌝ }
     ensures value { λ r. ⌜ left r (now (list .exit)) (now (reader .exit) .pos) ≡ storing (now (list .entry)) at (stepsFrom count (now (now (reader .entry) .bytes)) (now (reader .entry) .pos)) ⌝ }
     ensures same { λ _. ⌜ now (reader .exit) .bytes ≡ now (reader .entry) .bytes ⌝ }
@@ -42,7 +47,12 @@ fn read_steps(reader: &mut Reader, count: u32, list: &mut [Step], at: usize) -> 
 
 // Reads a program, for a list of `room` steps of which `before` are taken; says its length, and stores its
 // steps as far as the list has their places.
-fn read_program(reader: &mut Reader, room: usize, before: usize, list: &mut [Step]) -> Result<u32, Fault<BytesPlace>>
+fn read_program(
+    reader: &mut Reader,
+    room: usize,
+    before: usize,
+    list: &mut [Step],
+) -> Result<u32, Fault<BytesPlace>>
     requires { ⌜ before < 2 ^ 63 ⌝ }
     ensures value { λ r. ⌜ leftProgram r (now (list .exit)) (now (reader .exit) .pos) ≡ storingProgram (now (list .entry)) before (oneProgram (numberAt (now (now (reader .entry) .bytes))) (afterNumber (now (now (reader .entry) .bytes))) room before (now (reader .entry) .pos)) ⌝ }
     ensures same { λ _. ⌜ now (reader .exit) .bytes ≡ now (reader .entry) .bytes ⌝ }
@@ -61,7 +71,12 @@ fn read_program(reader: &mut Reader, room: usize, before: usize, list: &mut [Ste
 
 // Reads the programs of the stations, and says their lengths; stores the steps as far as the list has
 // their places.
-pub fn read_programs(reader: &mut Reader, stations: u32, room: usize, list: &mut [Step]) -> Result<[usize; 16], Fault<BytesPlace>>
+pub fn read_programs(
+    reader: &mut Reader,
+    stations: u32,
+    room: usize,
+    list: &mut [Step],
+) -> Result<[usize; 16], Fault<BytesPlace>>
     ensures value { λ r. ⌜ leftPrograms r (now (list .exit)) (now (reader .exit) .pos) ≡ storingPrograms (replicate 16 0) 0 (now (list .entry)) 0 (somePrograms (numberAt (now (now (reader .entry) .bytes))) (afterNumber (now (now (reader .entry) .bytes))) room (programCount stations) 0 (now (reader .entry) .pos)) ⌝ }
     ensures same { λ _. ⌜ now (reader .exit) .bytes ≡ now (reader .entry) .bytes ⌝ }
 {

@@ -85,17 +85,20 @@ module _ {S : Type 0} (e : Engine S) (p : List Step) where
   runs-tests h [] pc a more s z k l yes′ no′ none = rw add-zero at (yes′ refl)
   runs-tests h (t ∷ c) pc a more s z k l yes′ no′ none =
       runs-test pc t a (testCode h c a ++ more) s z k (omega arith)
-        (λ q. runs-tests h c (suc pc) a more s z (has-tail p pc _ _ k) (omega arith)
-            (λ m. rw e1 at (yes′ (step q ∙ m))) (λ m. no′ (step q ∙ m)) (λ m. none (step q ∙ m)))
-        (λ q. no′ (stop q))
-        (λ q. none (gone q))
+      (λ q. runs-tests h c (suc pc) a more s z (has-tail p pc _ _ k) (omega arith)
+      (λ m. rw e1 at (yes′ (step q ∙ m))) (λ m. no′ (step q ∙ m)) (λ m. none (step q ∙ m)))
+      (λ q. no′ (stop q))
+      (λ q. none (gone q))
     where
       e1 : pc + length (t ∷ c) ≡ suc pc + length c
       e1 = omega arith
+
       step : e .ask t s ≡ Some true → asks e (t ∷ c) s ≡ asks e c s
       step q = ap (λ o. onward e o (asks e c s)) q
+
       stop : e .ask t s ≡ Some false → asks e (t ∷ c) s ≡ Some false
       stop q = ap (λ o. onward e o (asks e c s)) q
+
       gone : e .ask t s ≡ None → asks e (t ∷ c) s ≡ None
       gone q = ap (λ o. onward e o (asks e c s)) q
 
@@ -115,7 +118,7 @@ length-rows h o d i (suc m) b = go (cases-bool (due h d i)) (length-rows h o d (
     go : (due h d i ≡ true) ⊎ (due h d i ≡ false) → ((b : ℕ) → length (rowsCode h o d (suc i) m b) ≡ rowsLen h d (suc i) m + 2) → length (rowsCode h o d i (suc m) b) ≡ rowsLen h d i (suc m) + 2
     go (inl q) ih =
         let a = ap length (cond-true (due h d i) (rowCode h o d i b ++ rowsCode h o d (suc i) m (b + rowLen h i)) (rowsCode h o d (suc i) m b) q)
-            ∙ length-append (rowCode h o d i b) (rowsCode h o d (suc i) m (b + rowLen h i)) ∙ ap₂ _+_ (length-row h o d i b) (ih (b + rowLen h i)) in
+        ∙ length-append (rowCode h o d i b) (rowsCode h o d (suc i) m (b + rowLen h i)) ∙ ap₂ _+_ (length-row h o d i b) (ih (b + rowLen h i)) in
         let c : cond (due h d i) (rowLen h i) 0 ≡ rowLen h i = cond-true _ _ _ q in
         omega arith
     go (inr q) ih =
@@ -128,18 +131,22 @@ module _ {S : Type 0} (e : Engine S) (p : List Step) (h : Share) (o d : ℕ) whe
       → Runs e p b s (rowTurn h e o d i (asks e (h .tests i) s) s other)
   runs-row i b s rest other k more =
       runs-tests e p h c b (b + rowLen h i) fin s _ row (omega arith)
-        (λ m. subst (λ u. Runs e p (b + length c) s (rowTurn h e o d i u s other)) (sym m) (runs-future e p (b + length c) _ _ _ s _ fins (runs-act e p (suc (b + length c)) i [] _ (has-tail p (b + length c) _ _ fins))))
-        (λ m. subst (λ u. Runs e p (b + rowLen h i) s (rowTurn h e o d i u s other)) (sym m) (more after))
-        (λ m. ap (λ u. rowTurn h e o d i u s other) m)
+      (λ m. subst (λ u. Runs e p (b + length c) s (rowTurn h e o d i u s other)) (sym m) (runs-future e p (b + length c) _ _ _ s _ fins (runs-act e p (suc (b + length c)) i [] _ (has-tail p (b + length c) _ _ fins))))
+      (λ m. subst (λ u. Runs e p (b + rowLen h i) s (rowTurn h e o d i u s other)) (sym m) (more after))
+      (λ m. ap (λ u. rowTurn h e o d i u s other) m)
     where
       c : List Test
       c = h .tests i
+
       fin : List Step
       fin = Step.future (wake h (h .stop i) - d) (target h o (wake h (h .stop i))) ∷ Step.act i ∷ Step.halt ∷ []
+
       row : Has p b (testCode h c (b + rowLen h i) ++ fin)
       row = has-left p b (rowCode h o d i b) rest k
+
       fins : Has p (b + length c) fin
       fins = subst (λ z. Has p (b + z) fin) (length-tests h c (b + rowLen h i)) (has-right p b (testCode h c (b + rowLen h i)) fin row)
+
       after : Has p (b + rowLen h i) rest
       after = subst (λ z. Has p (b + z) rest) (length-row h o d i b) (has-right p b (rowCode h o d i b) rest k)
 
@@ -160,6 +167,7 @@ module _ (h : Share) (pre : List Step) where
     where
       block : List Step
       block = rowsCode h (length pre) d 0 (h .rows) (addr h (length pre) d)
+
       go : (isDate h d ≡ true) ⊎ (isDate h d ≡ false) → length (cond (isDate h d) block []) ≡ cond (isDate h d) (rowsLen h d 0 (h .rows) + 2) 0
       go (inl q) = ap length (cond-true (isDate h d) block [] q) ∙ length-rows h (length pre) d 0 (h .rows) (addr h (length pre) d) ∙ sym (cond-true (isDate h d) _ _ q)
       go (inr q) = ap length (cond-false (isDate h d) block [] q) ∙ sym (cond-false (isDate h d) _ _ q)
@@ -182,8 +190,10 @@ module _ (h : Share) (pre : List Step) where
     where
       block : List Step
       block = rowsCode h (length pre) d 0 (h .rows) (addr h (length pre) d)
+
       e1 : suc d + (h .cycle - suc d) ≡ h .cycle
       e1 = omega arith
+
       go : (post : List Step) × (codeTo h pre (suc d + (h .cycle - suc d)) ≡ codeTo h pre (suc d) ++ post) → Has (codeTo h pre (h .cycle)) (addr h (length pre) d) block
       go (post, z) = (codeTo h pre d, post, ap (codeTo h pre) (sym e1) ∙ z ∙ ap (λ c. (codeTo h pre d ++ c) ++ post) (cond-true (isDate h d) block [] q) ∙ append-assoc (codeTo h pre d) block post, length-code d)
 
@@ -201,6 +211,7 @@ length-opening h head = length-append head _ ∙ ap (λ z. length head + z) (go 
   where
     o : ℕ
     o = openLen h head
+
     go : (d : Bool) → length (cond d [] (Step.future (wake h 0) (target h o (wake h 0)) ∷ Step.halt ∷ [])) ≡ cond d 0 2
     go true = refl
     go false = refl
@@ -282,12 +293,16 @@ module _ {S : Type 0} (h : Share) (head : List Step) (flat : Plain head) (pos : 
       has : Has p pc1 (Step.future (wake h 0) (target h o (wake h 0)) ∷ Step.halt ∷ [])
       has = subst (λ x. Has p x (Step.future (wake h 0) (target h o (wake h 0)) ∷ Step.halt ∷ [])) first-length
           (subst (Has p (0 + length first-code)) (cond-false (isDate h 0) [] (Step.future (wake h 0) (target h (openLen h head) (wake h 0)) ∷ Step.halt ∷ []) q) (has-right p 0 first-code then-code has-pre))
+
       same : wake h 1 ≡ wake h 0
       same = sym (wake-skip h 0 pos q)
+
       minus : wake h 1 - 0 ≡ wake h 1
       minus = omega arith
+
       nobody : (k : ℕ) → 0 ≤ k → k < 0 + h .rows → due h 0 k ≡ false
       nobody k a b = ⊎-elim (λ z. absurd (both-ways (isDate h 0) q (due-date h 0 k (omega arith) z))) (λ z. z) (cases-bool (due h 0 k))
+
       to-turn : turn h e o 0 0 (h .rows) s ≡ Some (e .later (wake h 0) (target h o (wake h 0)) s)
       to-turn = turn-none h e o 0 (h .rows) 0 s nobody ∙ ap₂ (λ x y. Some (e .later x (target h o y) s)) (minus ∙ same) same
 

@@ -56,7 +56,7 @@ module _ {S : Type 0} (step : ℕ → Bench S → Option (Bench S)) (run : ℕ �
   calls (c ∷ cs) m w l v =
       let q : min (min (m + wants c) limit + asked cs) limit ≡ min (m + (wants c + asked cs)) limit = omega arith in
       subst (λ x. At run x (callsOf step cs (callOf step c w))) q
-        (calls cs (min (m + wants c) limit) (callOf step c w) (omega arith) (subst (At run (min (m + wants c) limit)) (sym (call-ticks c w)) (some-ticks (wants c) m w l v)))
+      (calls cs (min (m + wants c) limit) (callOf step c w) (omega arith) (subst (At run (min (m + wants c) limit)) (sym (call-ticks c w)) (some-ticks (wants c) m w l v)))
 
   abbrev left : ℕ → ℕ → Reply
   left m k = record { made = min k (limit - m); ending = cond (ltb (limit - m) k) Ending.full Ending.done }
@@ -99,7 +99,7 @@ pub replied-stands : {S : Type 0} → Replied S
 replied-stands {S = S} step run w goes all v cs c =
     let e : limit - min (0 + asked cs) limit ≡ limit - asked cs = omega arith in
     reply-ticks step run goes all c (callsOf step cs w) ∙ replies step run goes all (wants c) (min (0 + asked cs) limit) (callsOf step cs w) (omega arith) (calls step run goes all cs 0 w (omega arith) v)
-      ∙ ap (λ x. record { made = min (wants c) x; ending = cond (ltb x (wants c)) Ending.full Ending.done }) e
+    ∙ ap (λ x. record { made = min (wants c) x; ending = cond (ltb x (wants c)) Ending.full Ending.done }) e
 
 pub granted-stands : {S : Type 0} → Granted S
 granted-stands step run w goes all v cs = let e : 0 + asked cs ≡ asked cs = omega arith in subst (λ x. At run (min x limit) (callsOf step cs w)) e (calls step run goes all cs 0 w (omega arith) v)

@@ -31,9 +31,12 @@ module _ {S : Type 0} (next : S → Work → S) (answer : S → Work → ℕ) (l
   run m = ticks next answer knows r n L kp nk (2 * stations) 0 m (newBench p)
 
   made : Made next answer knows r n L kp nk stations (newBench p)
-  made = record
-    { places = λ s x. refl; cells = λ m. refl; mark = λ k. refl
-    ; ready = record { at = λ j l. refl; pc = λ j l. refl; free = λ j l. refl; line = refl; out = λ s x l. refl } }
+  made = record {
+    places = λ s x. refl;
+    cells = λ m. refl;
+    mark = λ k. refl;
+    ready = record { at = λ j l. refl; pc = λ j l. refl; free = λ j l. refl; line = refl; out = λ s x l. refl };
+  }
 
   kin : (m : ℕ) → m < nk → kp m .st < stations
   kin m l = lim .kept m l .0
@@ -75,14 +78,15 @@ module _ {S : Type 0} (next : S → Work → S) (answer : S → Work → ℕ) (l
       go (c, x, h) = subst (λ (d : Bench S). MarkIs next answer knows r n L kp nk p m k (d .mark k)) (same (run m) c b x e) (h k l)
 
   pub promised : Promised next answer knows r n L kp nk stations p
-  promised = record
-    { programs = programs-keep r n L kp nk stations variables basis lim ok
-    ; granted = λ cs. at cs .granted
-    ; going = λ cs. at cs .going
-    ; replies = λ cs c. replied-stands step run (newWorld p) goes all start cs c
-    ; cycles = λ cs q. holds (worldAfter next answer knows r n L kp nk stations p cs .granted) (worldAfter next answer knows r n L kp nk stations p cs .bench) q (there cs)
-    ; marks = λ cs k. marked (worldAfter next answer knows r n L kp nk stations p cs .granted) (worldAfter next answer knows r n L kp nk stations p cs .bench) k (there cs)
-    ; sends = sends-apart next answer knows r n L kp nk basis p ok }
+  promised = record {
+    programs = programs-keep r n L kp nk stations variables basis lim ok;
+    granted = λ cs. at cs .granted;
+    going = λ cs. at cs .going;
+    replies = λ cs c. replied-stands step run (newWorld p) goes all start cs c;
+    cycles = λ cs q. holds (worldAfter next answer knows r n L kp nk stations p cs .granted) (worldAfter next answer knows r n L kp nk stations p cs .bench) q (there cs);
+    marks = λ cs k. marked (worldAfter next answer knows r n L kp nk stations p cs .granted) (worldAfter next answer knows r n L kp nk stations p cs .bench) k (there cs);
+    sends = sends-apart next answer knows r n L kp nk basis p ok;
+  }
 
 pub run-promise-stands : {S : Type 0} (next : S → Work → S) (answer : S → Work → ℕ) → Lawful S next answer → RunPromiseStands S next answer
 run-promise-stands next answer law knows r n L kp nk stations variables basis p lim ok fit = promised next answer law knows r n L kp nk stations variables basis p lim ok fit

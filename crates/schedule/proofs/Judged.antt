@@ -46,12 +46,19 @@ module _ (r : ℕ → Row) (n L : ℕ) (kp : ℕ → Keep) (nk : ℕ) (j : Judge
   supply i s d x (inr h) = inr h
 
   pub accepted-now : Accepted r n L (startOf kp nk c) basis
-  accepted-now = record
-    { long = j .long; inside = j .inside; copies = j .copies; kept = kept; free = free
-    ; writers = j .writers; calls = j .calls; lines = j .lines
-    ; tested = λ i s l k b t e z. supply i s b (t .var) (j .tested i s l k b t e z)
-    ; first = λ i l h. supply i (r i .st) (r i .tests) (r i .one) (j .first i l h)
-    ; second = λ i l h. supply i (r i .st) (r i .tests) (r i .two) (j .second i l h) }
+  accepted-now = record {
+    long = j .long;
+    inside = j .inside;
+    copies = j .copies;
+    kept = kept;
+    free = free;
+    writers = j .writers;
+    calls = j .calls;
+    lines = j .lines;
+    tested = λ i s l k b t e z. supply i s b (t .var) (j .tested i s l k b t e z);
+    first = λ i l h. supply i (r i .st) (r i .tests) (r i .one) (j .first i l h);
+    second = λ i l h. supply i (r i .st) (r i .tests) (r i .two) (j .second i l h);
+  }
 
 pub judged-stands : {S : Type 0} (next : S → Work → S) (answer : S → Work → ℕ) → Lawful S next answer → JudgedPromise S next answer
 judged-stands next answer law knows r n L kp nk stations variables p lim j fit =

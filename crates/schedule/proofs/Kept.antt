@@ -150,7 +150,7 @@ module _ (h : Share) (o len : ℕ) (P : ℕ → Step → Type 0) (size : len ≡
       go (inl q) ih =
           let c : cond (due h d i) (rowLen h i) 0 ≡ rowLen h i = cond-true _ _ _ q in
           subst (Fine P b) (sym (cond-true _ _ _ q))
-            (fine-append P (rowCode h o d i b) _ b (fine-row d i b (omega arith) q (omega arith)) (subst (λ z. Fine P (b + z) (rowsCode h o d (suc i) m (b + rowLen h i))) (sym (length-row h o d i b)) (ih (b + rowLen h i) (omega arith))))
+          (fine-append P (rowCode h o d i b) _ b (fine-row d i b (omega arith) q (omega arith)) (subst (λ z. Fine P (b + z) (rowsCode h o d (suc i) m (b + rowLen h i))) (sym (length-row h o d i b)) (ih (b + rowLen h i) (omega arith))))
       go (inr q) ih =
           let c : cond (due h d i) (rowLen h i) 0 ≡ 0 = cond-false _ _ _ q in
           subst (Fine P b) (sym (cond-false _ _ _ q)) (ih b (omega arith))
@@ -162,8 +162,10 @@ module _ (h : Share) (o len : ℕ) (P : ℕ → Step → Type 0) (size : len ≡
     where
       new : List Step
       new = cond (isDate h d) (rowsCode h (length pre) d 0 (h .rows) (addr h (length pre) d)) []
+
       there : 0 + length (codeTo h pre d) ≡ addr h o d
       there = zero-add _ ∙ length-code h pre d ∙ ap (λ z. addr h z d) e
+
       go : (isDate h d ≡ true) ⊎ (isDate h d ≡ false) → Fine P (addr h o d) new
       go (inl q) = subst (Fine P (addr h o d)) (sym (cond-true _ _ _ q)) (subst (λ z. Fine P (addr h o d) (rowsCode h z d 0 (h .rows) (addr h z d))) (sym e) (fine-rows d (h .rows) 0 (addr h o d) l (omega arith) (omega (arith, block-in h o d l q))))
       go (inr q) = subst (Fine P (addr h o d)) (sym (cond-false _ _ _ q)) tt
@@ -202,15 +204,16 @@ module _ (r : ℕ → Row) (n L : ℕ) (kp : ℕ → Keep) (nk stations variable
   P = StepOk r nk (length p)
 
   acts : (k : ℕ) → k < n → ActOk r nk k
-  acts k l = record
-    { row = omega (arith, lim .rows)
-    ; work = lim .works k l
-    ; few = lim .few k l
-    ; first = λ c. omega (arith, lim .first k l c, lim .fewVariables)
-    ; second = λ c. omega (arith, lim .second k l c, lim .fewVariables)
-    ; output = omega (arith, lim .output k l, lim .fewVariables)
-    ; long = long k l
-    ; short = omega (arith, inside k l, lim .cycle .1) }
+  acts k l = record {
+    row = omega (arith, lim .rows);
+    work = lim .works k l;
+    few = lim .few k l;
+    first = λ c. omega (arith, lim .first k l c, lim .fewVariables);
+    second = λ c. omega (arith, lim .second k l c, lim .fewVariables);
+    output = omega (arith, lim .output k l, lim .fewVariables);
+    long = long k l;
+    short = omega (arith, inside k l, lim .cycle .1);
+  }
 
   keeps-fine : (m a : ℕ) → m ≤ nk → Fine P a (keepCode kp (j / 2) m)
   unfolding keepCode
@@ -242,13 +245,17 @@ module _ (r : ℕ → Row) (n L : ℕ) (kp : ℕ → Keep) (nk stations variable
     where
       a : ℕ
       a = 0 + length w
+
       rest : (isDate h 0 ≡ true) ⊎ (isDate h 0 ≡ false) → Fine P a (cond (isDate h 0) [] (Step.future (wake h 0) (target h o (wake h 0)) ∷ Step.halt ∷ []))
       rest (inl q) = subst (Fine P a) (sym (cond-true _ _ _ q)) tt
-      rest (inr q) = subst (Fine P a) (sym (cond-false _ _ _ q))
-          ( (omega (arith, wake-skip h 0 posL q, wake-le h 1)
-            , omega (arith, wake-top h 0 (omega arith), lim .cycle .1)
-            , omega (arith, size, target-in h o 0 (omega arith) (omega (arith, size, ends-long p prog-ends))))
-          , (tt, tt) )
+      rest (inr q) = subst (Fine P a) (sym (cond-false _ _ _ q)) (
+        (
+          omega (arith, wake-skip h 0 posL q, wake-le h 1),
+          omega (arith, wake-top h 0 (omega arith), lim .cycle .1),
+          omega (arith, size, target-in h o 0 (omega arith) (omega (arith, size, ends-long p prog-ends))),
+        ),
+        (tt, tt),
+      )
 
   all-fine : Fine P 0 p
   all-fine = fine-code h o (length p) P size (ends-long p prog-ends)
@@ -267,11 +274,12 @@ module _ (r : ℕ → Row) (n L : ℕ) (kp : ℕ → Keep) (nk stations variable
 
   pub program-ok : ProgramOk r nk p
   unfolding Ends
-  program-ok = record
-    { long = ends-long p prog-ends
-    ; short = omega (arith, sized h pre (λ k l. lim .tests k l), length-opening h w, few-steps, lim .rows)
-    ; last = prog-ends
-    ; steps = λ a l. subst (λ z. P z (getD p a Step.halt)) (zero-add a) (fine-at P p 0 a all-fine l) }
+  program-ok = record {
+    long = ends-long p prog-ends;
+    short = omega (arith, sized h pre (λ k l. lim .tests k l), length-opening h w, few-steps, lim .rows);
+    last = prog-ends;
+    steps = λ a l. subst (λ z. P z (getD p a Step.halt)) (zero-add a) (fine-at P p 0 a all-fine l);
+  }
 
 pub programs-keep : ProgramsKeep
 programs-keep r n L kp nk stations variables basis lim ok j l = program-ok r n L kp nk stations variables lim (ok (λ m. None) .long) (ok (λ m. None) .inside) j

@@ -45,18 +45,21 @@ module _ (P : ℕ → Bool) (f : ℕ → ℕ → Mark) (counted : (q c : ℕ) �
     where
       y : Mark
       y = cond (P B) (f B (suc (x .count))) x
+
       go : (P B ≡ true) ⊎ (P B ≡ false) → Upto (suc B) y
       go (inl q) =
           let e : y ≡ f B (suc (x .count)) = cond-true _ _ _ q in
           let n : y .count ≡ suc (x .count) = ap (λ (m : Mark). m .count) e ∙ counted B (suc (x .count)) in
-          record
-            { count = n ∙ ap suc (u .count) ∙ sym (cond-true (P B) _ _ q)
-            ; latest = inr (B, q, (λ q′ l t. omega arith), e ∙ ap (f B) (sym n)) }
+          record {
+            count = n ∙ ap suc (u .count) ∙ sym (cond-true (P B) _ _ q);
+            latest = inr (B, q, (λ q′ l t. omega arith), e ∙ ap (f B) (sym n));
+          }
       go (inr q) =
           let e : y ≡ x = cond-false _ _ _ q in
-          record
-            { count = ap (λ (m : Mark). m .count) e ∙ u .count ∙ sym (cond-false (P B) _ _ q)
-            ; latest = subst (λ (z : Mark). (((k : ℕ) → k < suc B → P k ≡ false) × (z ≡ blankMark)) ⊎ ((k : ℕ) × (P k ≡ true) × ((k′ : ℕ) → k′ < suc B → P k′ ≡ true → k′ ≤ k) × (z ≡ f k (z .count)))) (sym e) (on (u .latest)) }
+          record {
+            count = ap (λ (m : Mark). m .count) e ∙ u .count ∙ sym (cond-false (P B) _ _ q);
+            latest = subst (λ (z : Mark). (((k : ℕ) → k < suc B → P k ≡ false) × (z ≡ blankMark)) ⊎ ((k : ℕ) × (P k ≡ true) × ((k′ : ℕ) → k′ < suc B → P k′ ≡ true → k′ ≤ k) × (z ≡ f k (z .count)))) (sym e) (on (u .latest));
+          }
         where
           on : (((k : ℕ) → k < B → P k ≡ false) × (x ≡ blankMark)) ⊎ ((k : ℕ) × (P k ≡ true) × ((k′ : ℕ) → k′ < B → P k′ ≡ true → k′ ≤ k) × (x ≡ f k (x .count)))
               → (((k : ℕ) → k < suc B → P k ≡ false) × (x ≡ blankMark)) ⊎ ((k : ℕ) × (P k ≡ true) × ((k′ : ℕ) → k′ < suc B → P k′ ≡ true → k′ ≤ k) × (x ≡ f k (x .count)))
@@ -139,9 +142,10 @@ module _ {S : Type 0} (next : S → Work → S) (answer : S → Work → ℕ) (k
   mark-is x e = go (subst (Upto P f (λ x c. refl) (suc q)) (sym (e ∙ ap (λ z. cond z (f q (suc (so-far q .count))) (so-far q)) now)) (one-more P f (λ x c. refl) q (so-far q) (upto q (omega arith))))
     where
       go : Upto P f (λ x c. refl) (suc q) x → MarkIs next answer knows r n L kp nk p m k x
-      go u = record
-        { count = λ bound l. u .count ∙ count-any P (suc q) bound later (λ j h. beyond j (omega arith))
-        ; latest = on (u .latest) }
+      go u = record {
+        count = λ bound l. u .count ∙ count-any P (suc q) bound later (λ j h. beyond j (omega arith));
+        latest = on (u .latest);
+      }
         where
           on : (((j : ℕ) → j < suc q → P j ≡ false) × (x ≡ blankMark)) ⊎ ((j : ℕ) × (P j ≡ true) × ((j′ : ℕ) → j′ < suc q → P j′ ≡ true → j′ ≤ j) × (x ≡ f j (x .count)))
               → (((j : ℕ) → P j ≡ false) × (x ≡ blankMark)) ⊎ ((j : ℕ) × (P j ≡ true) × ((j′ : ℕ) → P j′ ≡ true → j′ ≤ j) × (x ≡ f j (x .count)))
@@ -153,11 +157,13 @@ marks-stand {S = S} next answer law knows r n L kp nk stations basis b posL kin 
   where
     Goal : ℕ → Type 0
     Goal m = (c : Bench S) × (ticks next answer knows r n L kp nk (2 * stations) 0 m b ≡ Some c) × ((k : ℕ) → k < n → MarkIs next answer knows r n L kp nk (b .plant) m k (c .mark k))
+
     go : (q : ℕ) × (t : ℕ) × (m ≡ q * L + t) × (t < L) → Goal m
     go (q, t, e, l) = subst Goal (sym e) (on (run-stands next answer law knows r n L kp nk stations basis b posL kin ok fit made .1 q t (omega arith)))
       where
         early : (k : ℕ) → k < n → r k .date < L
         early k lk = omega (arith, ok (λ m. None) .long k lk, ok (λ m. None) .inside k lk)
+
         on : (c : Bench S) × (ticks next answer knows r n L kp nk (2 * stations) 0 (q * L + t) b ≡ Some c)
             × ((k : ℕ) → k < n → c .mark k ≡ cond (performs next answer knows r n L kp nk (b .plant) q k && ltb (r k .date) t) (markIn next answer knows r n L kp nk (b .plant) q k (markAfter next answer knows r n L kp nk (b .plant) q k)) (markAfter next answer knows r n L kp nk (b .plant) q k)) → Goal (q * L + t)
         on (c, z, x) = (c, z, λ k lk. mark-is next answer knows r n L kp nk (b .plant) q t k l (early k lk) (c .mark k) (x k lk))

@@ -72,7 +72,7 @@ module _ {S : Type 0} (next : S → Work → S) (answer : S → Work → ℕ) (k
       on-step Step.halt = refl
       on-step (Step.act k) = on-act k (faultOf next answer knows r n L kp nk j k (s .bench))
           ∙ ap (λ z. acted e (cond z (Some (begin next answer knows r n L kp nk j k T (s .bench))) None) pc go)
-            (sym (guarded (own next answer knows r n L kp nk j k) (present (r k) (s .bench .places)) (isNone (s .bench .units j .busy)) (r k .sends) (isNone (s .bench .line)) (knows (r k .st) (r k .work) (r k .count))))
+          (sym (guarded (own next answer knows r n L kp nk j k) (present (r k) (s .bench .places)) (isNone (s .bench .units j .busy)) (r k .sends) (isNone (s .bench .line)) (knows (r k .st) (r k .work) (r k .count))))
       on-step (Step.keep x m) = ih (suc pc) _
       on-step Step.clear = ih (suc pc) _
       on-step (Step.give m x w) = ih (suc pc) _
@@ -123,16 +123,18 @@ module _ {S : Type 0} (step : ℕ → Noted S → Did (Noted S)) (plainStep : �
     where
       Goal : Type 0
       Goal = (u : Held S) × (tryTick step w ≡ Tried.gone u) × Now (suc m) u
+
       go : (b : Bench S) × (run (suc m) ≡ Some b) → Goal
       go (b, e) = by (step (w .granted) (w .state)) refl (alike (w .granted) (w .state) ∙ ap (λ k. plainStep k (w .state .bench)) (v .granted) ∙ sym (on m (w .state .bench) (v .bench)) ∙ e)
         where
           by : (d : Did (Noted S)) → step (w .granted) (w .state) ≡ d → erase d ≡ Some b → Goal
           by (Did.bad f s) z x = let y : _≡_ {A = ℕ} 0 1 = cc in absurd (omega arith)
           by (Did.good s) z x =
-              let ne : eqb (w .granted) limit ≡ false = ne-eqb _ _ (λ y. omega (arith, v .granted, y)) in
-              ( record { state = s; granted = suc (w .granted); stopped = false }
-              , cond-false _ _ _ (v .still) ∙ cond-false _ _ _ ne ∙ ap (after step w) z
-              , record { granted = ap suc (v .granted); still = refl; bench = e ∙ sym x } )
+              let ne : eqb (w .granted) limit ≡ false = ne-eqb _ _ (λ y. omega (arith, v .granted, y)) in (
+                record { state = s; granted = suc (w .granted); stopped = false },
+                cond-false _ _ _ (v .still) ∙ cond-false _ _ _ ne ∙ ap (after step w) z,
+                record { granted = ap suc (v .granted); still = refl; bench = e ∙ sym x },
+              )
 
   no-more : (w : Held S) → Now limit w → tryTick step w ≡ Tried.refused (plainFault 18) w
   no-more w v = cond-false _ _ _ (v .still) ∙ cond-true _ _ _ (eq-eqb _ _ (v .granted))
@@ -178,20 +180,25 @@ module _ {S : Type 0} (step : ℕ → Noted S → Did (Noted S)) (plainStep : �
             where
               q : min (suc m + k) limit ≡ min (m + suc k) limit
               q = ap (λ x. min x limit) (omega arith)
+
               from : Both k (suc m) u → Both (suc k) m w
-              from z = record
-                { room = subst (Now (min (m + suc k) limit)) (sym (ap (λ o. heldOn step o (heldTicks step k)) e)) (subst (λ x. Now x (heldTicks step k u)) q (z .room))
-                ; reply = ap (λ o. answerOn step o (answerTicks step k)) e ∙ ap (λ (x : Answer). record { made = suc (x .made); refusal = x .refusal }) (z .reply) ∙ one-less m k h }
+              from z = record {
+                room = subst (Now (min (m + suc k) limit)) (sym (ap (λ o. heldOn step o (heldTicks step k)) e)) (subst (λ x. Now x (heldTicks step k u)) q (z .room));
+                reply = ap (λ o. answerOn step o (answerTicks step k)) e ∙ ap (λ (x : Answer). record { made = suc (x .made); refusal = x .refusal }) (z .reply) ∙ one-less m k h;
+              }
       go (inr h) ih = by (subst (λ x. Now x w) at-limit v)
         where
           at-limit : m ≡ limit
           at-limit = omega arith
+
           q : limit ≡ min (m + suc k) limit
           q = omega arith
+
           by : Now limit w → Both (suc k) m w
-          by y = record
-            { room = subst (Now (min (m + suc k) limit)) (sym (ap (λ o. heldOn step o (heldTicks step k)) (no-more w y))) (subst (λ x. Now x w) q y)
-            ; reply = ap (λ o. answerOn step o (answerTicks step k)) (no-more w y) ∙ none-left m k h }
+          by y = record {
+            room = subst (Now (min (m + suc k) limit)) (sym (ap (λ o. heldOn step o (heldTicks step k)) (no-more w y))) (subst (λ x. Now x w) q y);
+            reply = ap (λ o. answerOn step o (answerTicks step k)) (no-more w y) ∙ none-left m k h;
+          }
 
   calls : (cs : List Call) (m : ℕ) (w : Held S) → m ≤ limit → Now m w → Now (min (m + asked cs) limit) (heldCalls step cs w)
   unfolding heldCalls asked
@@ -242,14 +249,15 @@ module _ {S : Type 0} (next : S → Work → S) (answer : S → Work → ℕ) (l
   there cs = ap run (at cs .granted) ∙ at cs .bench
 
   kept : Kept next answer knows r n L kp nk stations p
-  kept = record
-    { programs = programs-keep r n L kp nk stations variables basis lim ok
-    ; granted = λ cs. at cs .granted
-    ; going = λ cs. at cs .still
-    ; answers = λ cs c. replies step bare same-step run on′ every′ (newHeld p) start cs c
-    ; cycles = λ cs q e. holds next answer law knows r n L kp nk stations variables basis p lim ok fit (heldAfter next answer knows r n L kp nk stations p cs .granted) (heldAfter next answer knows r n L kp nk stations p cs .state .bench) q (there cs) e
-    ; marks = λ cs k l. marked next answer law knows r n L kp nk stations variables basis p lim ok fit (heldAfter next answer knows r n L kp nk stations p cs .granted) (heldAfter next answer knows r n L kp nk stations p cs .state .bench) k (there cs) l
-    ; sends = sends-apart next answer knows r n L kp nk basis p ok }
+  kept = record {
+    programs = programs-keep r n L kp nk stations variables basis lim ok;
+    granted = λ cs. at cs .granted;
+    going = λ cs. at cs .still;
+    answers = λ cs c. replies step bare same-step run on′ every′ (newHeld p) start cs c;
+    cycles = λ cs q e. holds next answer law knows r n L kp nk stations variables basis p lim ok fit (heldAfter next answer knows r n L kp nk stations p cs .granted) (heldAfter next answer knows r n L kp nk stations p cs .state .bench) q (there cs) e;
+    marks = λ cs k l. marked next answer law knows r n L kp nk stations variables basis p lim ok fit (heldAfter next answer knows r n L kp nk stations p cs .granted) (heldAfter next answer knows r n L kp nk stations p cs .state .bench) k (there cs) l;
+    sends = sends-apart next answer knows r n L kp nk basis p ok;
+  }
 
 pub numbered-stands : {S : Type 0} (next : S → Work → S) (answer : S → Work → ℕ) → Lawful S next answer → NumberedPromise S next answer
 numbered-stands next answer law knows r n L kp nk stations variables basis p lim ok fit = kept next answer law knows r n L kp nk stations variables basis p lim ok fit

@@ -75,6 +75,7 @@ module _ {S : Type 0} (next : S → Work → S) (answer : S → Work → ℕ) (k
     where
       Here : Bool → Bench S
       Here z = heads e (cond z (Step.keep (kp m .from) m ∷ []) []) (withCells b (cellsTo m b))
+
       lower : (i : ℕ) → (m ≡ i → ⊥) → ltb i m ≡ ltb i (suc m)
       lower i ne = on (cases-lt i m)
         where
@@ -84,15 +85,19 @@ module _ {S : Type 0} (next : S → Work → S) (answer : S → Work → ℕ) (k
             where
               less : (i : ℕ) → m ≤ i → (m ≡ i → ⊥) → suc m ≤ i
               less i l ne = omega arith
+
       other : (i : ℕ) → (m ≡ i → ⊥) → cellsTo m b i ≡ cellsTo (suc m) b i
       other i ne = ap (λ z. cond (z && eqb (kp i .st) s) (takeIn (b .places s (kp i .from)) (b .cells i)) (b .cells i)) (lower i ne)
+
       own-old : cellsTo m b m ≡ b .cells m
       own-old = ap (λ z. cond (z && eqb (kp m .st) s) (takeIn (b .places s (kp m .from)) (b .cells m)) (b .cells m)) (le-ltb m m (omega arith))
+
       go : (eqb (kp m .st) s ≡ true) ⊎ (eqb (kp m .st) s ≡ false) → Here (eqb (kp m .st) s) ≡ withCells b (cellsTo (suc m) b)
       go (inl q) = ap Here q ∙ ap (withCells b) (fun-ext (λ i. at i (cases-eq m i)))
         where
           own-new : cellsTo (suc m) b m ≡ takeIn (b .places s (kp m .from)) (b .cells m)
           own-new = ap₂ (λ y z. cond (y && z) (takeIn (b .places s (kp m .from)) (b .cells m)) (b .cells m)) (lt-ltb m (suc m) (omega arith)) q
+
           at : (i : ℕ) → (m ≡ i) ⊎ (m ≡ i → ⊥) → cond (eqb m i) (takeIn (b .places s (kp m .from)) (cellsTo m b m)) (cellsTo m b i) ≡ cellsTo (suc m) b i
           at i (inl w) = cond-true _ _ _ (eq-eqb _ _ w) ∙ ap (takeIn (b .places s (kp m .from))) own-old ∙ sym own-new ∙ ap (cellsTo (suc m) b) w
           at i (inr w) = cond-false _ _ _ (ne-eqb _ _ w) ∙ other i w
@@ -115,6 +120,7 @@ module _ {S : Type 0} (next : S → Work → S) (answer : S → Work → ℕ) (k
       mix false true u v q = refl
       mix true false u v q = refl
       mix false false u v q = refl
+
       out : (y z : Bool) (u v x : Option ℕ) → z ≡ false → cond (y && z) u v ≡ cond z x v
       out true true u v x q = absurd (absurd-true q)
         where
@@ -126,6 +132,7 @@ module _ {S : Type 0} (next : S → Work → S) (answer : S → Work → ℕ) (k
           absurd-true q = let z : _≡_ {A = ℕ} 0 1 = cc in omega arith
       out true false u v x q = refl
       out false false u v x q = refl
+
       go : (eqb (kp i .st) s ≡ true) ⊎ (eqb (kp i .st) s ≡ false) → cellsTo nk b i ≡ cellsAt next answer knows r n L kp nk s b i
       go (inl q) = ap (λ k. cond (ltb i nk && eqb (kp i .st) s) (takeIn (b .places k (kp i .from)) (b .cells i)) (b .cells i)) (sym (eqb-true _ _ q))
           ∙ mix (ltb i nk) (eqb (kp i .st) s) (takeIn (b .places (kp i .st) (kp i .from)) (b .cells i)) (b .cells i) q
@@ -133,9 +140,14 @@ module _ {S : Type 0} (next : S → Work → S) (answer : S → Work → ℕ) (k
 
   -- what the keep rows below m have given
   abbrev given-to : ℕ → Bench S → Bench S
-  given-to m b = record
-    { places = λ q x. cond (eqb s q) (pick (λ i. eqb (kp i .st) s && eqb (kp i .into) x) (λ i. orFirst (b .cells i) (kp i .first)) m) (b .places q x)
-    ; cells = b .cells; plant = b .plant; units = b .units; line = b .line; mark = b .mark }
+  given-to m b = record {
+    places = λ q x. cond (eqb s q) (pick (λ i. eqb (kp i .st) s && eqb (kp i .into) x) (λ i. orFirst (b .cells i) (kp i .first)) m) (b .places q x);
+    cells = b .cells;
+    plant = b .plant;
+    units = b .units;
+    line = b .line;
+    mark = b .mark;
+  }
 
   abbrev withPlaces : Bench S → (ℕ → ℕ → Option ℕ) → Bench S
   withPlaces b p = record { places = p; cells = b .cells; plant = b .plant; units = b .units; line = b .line; mark = b .mark }
@@ -146,8 +158,10 @@ module _ {S : Type 0} (next : S → Work → S) (answer : S → Work → ℕ) (k
     where
       Here : Bool → Bench S
       Here z = heads e (cond z (Step.give m (kp m .into) (kp m .first) ∷ []) []) (given-to m b)
+
       so-far : ℕ → Option ℕ
       so-far x = pick (λ i. eqb (kp i .st) s && eqb (kp i .into) x) (λ i. orFirst (b .cells i) (kp i .first)) m
+
       go : (eqb (kp m .st) s ≡ true) ⊎ (eqb (kp m .st) s ≡ false) → Here (eqb (kp m .st) s) ≡ given-to (suc m) b
       go (inl q) = ap Here q ∙ ap (withPlaces b) (fun-ext (λ k. fun-ext (λ x. gift (eqb s k) (eqb (kp m .st) s) (eqb (kp m .into) x) (Some (orFirst (b .cells m) (kp m .first))) (so-far x) (b .places k x) q)))
       go (inr q) = ap Here q ∙ ap (withPlaces b) (fun-ext (λ k. fun-ext (λ x. no-gift (eqb s k) (eqb (kp m .st) s) (eqb (kp m .into) x) (Some (orFirst (b .cells m) (kp m .first))) (so-far x) (b .places k x) q)))

@@ -60,6 +60,7 @@ module _ {S : Type 0} (next : S → Work → S) (answer : S → Work → ℕ) (l
       where
         still : D k ≡ false → Like i (after next w D s (suc k)) (after next w D s k)
         still e = rw (stop D s k e) (like-refl i _)
+
         go : (w k .station ≡ i → ⊥) ⊎ (D k ≡ false) → (D k ≡ true) ⊎ (D k ≡ false) → Like i (after next w D s (suc k)) (after next w D s k)
         go (inr e) q = still e
         go (inl ne) (inr e) = still e
@@ -81,6 +82,7 @@ module _ {S : Type 0} (next : S → Work → S) (answer : S → Work → ℕ) (l
           where
             de : D k ≡ E k
             de = h k (omega arith) e
+
             with-bool : (D k ≡ true) ⊎ (D k ≡ false) → Like i (after next w D s (suc k)) (after next w E s (suc k))
             with-bool (inr q) = rw (stop D s k q, stop E s k (sym de ∙ q)) ih
             with-bool (inl q) = rw (step D s k q, step E s k (sym de ∙ q)) (like-next i (w k) _ _ e ih)
@@ -109,8 +111,10 @@ module _ {S : Type 0} (next : S → Work → S) (answer : S → Work → ℕ) (l
         where
           m : ℕ
           m = suc j + d
+
           ne : m ≡ j → ⊥
           ne e = omega (arith, e)
+
           go : (D m ≡ true) ⊎ (D m ≡ false) → next (after next w D s m) (w j) ≡ after next w D′ s m → next (after next w D s (suc m)) (w j) ≡ after next w D′ s (suc m)
           go (inr e) ih = ap (λ p. next p (w j)) (stop D s m e) ∙ ih ∙ sym (stop D′ s m (rest m ne ∙ e))
           go (inl e) ih =
@@ -128,8 +132,10 @@ module _ {S : Type 0} (next : S → Work → S) (answer : S → Work → ℕ) (l
     where
       e : j + (n - j) ≡ n
       e = omega arith
+
       e′ : suc j + (n - suc j) ≡ n
       e′ = omega arith
+
       told : answer (after next w D s n) (w j) ≡ answer (after next w E s j) (w j)
       told = like-answer w (w j) _ _ (like-trans (w j .station) _ _ _ (rw e at (quiet-on w D s (w j .station) j (n - j) late)) (agree w D E s (w j .station) j (λ k m q. above k (omega arith) q m)))
         where
@@ -139,5 +145,6 @@ module _ {S : Type 0} (next : S → Work → S) (answer : S → Work → ℕ) (l
               go : (k ≡ j) ⊎ (k ≡ j → ⊥) → D k ≡ false
               go (inl z) = ap D z ∙ off
               go (inr z) = below k (omega (arith, e)) q (omega arith)
+
       left : next (after next w D s n) (w j) ≡ after next w D′ s n
       left = rw e′ at (joined w D D′ s j off on rest (n - suc j) (λ k m q g. below k (omega (arith, e′)) q g))

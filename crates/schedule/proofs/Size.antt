@@ -23,8 +23,10 @@ module _ (h : Share) (small : (k : ℕ) → k < h .rows → length (h .tests k) 
     where
       R : ℕ
       R = rowsLen h d (suc i) m
+
       H : ℕ
       H = heavy d (suc i) m
+
       go : (due h d i ≡ true) ⊎ (due h d i ≡ false) → (R ≤ H) × (0 < R → R + 2 ≤ H)
           → (cond (due h d i) (rowLen h i) 0 + R ≤ cond (due h d i) 9 0 + H) × (0 < cond (due h d i) (rowLen h i) 0 + R → cond (due h d i) (rowLen h i) 0 + R + 2 ≤ cond (due h d i) 9 0 + H)
       go (inl q) (a, b) =

@@ -23,7 +23,7 @@ anyb P (suc n) = P n || anyb P n
 pub any-hit : (P : ℕ → Bool) (n k : ℕ) → k < n → P k ≡ true → anyb P n ≡ true
 unfolding anyb
 any-hit P zero k l e = absurd (omega arith)
-any-hit P (suc n) k l e = go (cases-bool (P n))  (λ m. any-hit P n k m e)
+any-hit P (suc n) k l e = go (cases-bool (P n)) (λ m. any-hit P n k m e)
   where
     go : (P n ≡ true) ⊎ (P n ≡ false) → (k < n → anyb P n ≡ true) → (P n || anyb P n) ≡ true
     go (inl q) ih = or-left _ _ q
@@ -104,10 +104,13 @@ module _ {S : Type 0} (next : S → Work → S) (answer : S → Work → ℕ) (r
         where
           vq : V (t .var) ≡ Some w
           vq = up (t .var) w q
+
           aq : e .ask t b ≡ Some (meets t (p (t .var)))
           aq = he t ∙ ap (answered t) q ∙ ap (λ o. Some (meets t o)) (sym q)
+
           mv : meets t (V (t .var)) ≡ meets t (p (t .var))
           mv = ap (meets t) (vq ∙ sym q)
+
           with-bool : (meets t (p (t .var)) ≡ true) ⊎ (meets t (p (t .var)) ≡ false) → onward e (e .ask t b) (asks e d b) ≡ Some (meets t (V (t .var)) && allMeet d V)
           with-bool (inl z) = ap (λ o. onward e o (asks e d b)) (aq ∙ ap Some z) ∙ ih z ∙ ap (λ o. Some (o && allMeet d V)) (sym z ∙ sym mv)
           with-bool (inr z) = ap (λ o. onward e o (asks e d b)) (aq ∙ ap Some z) ∙ ap (λ o. Some (o && allMeet d V)) (sym z ∙ sym mv)
@@ -121,6 +124,7 @@ module _ {S : Type 0} (next : S → Work → S) (answer : S → Work → ℕ) (r
     where
       up : (x w : ℕ) → p x ≡ Some w → V x ≡ Some w
       up x w q = shown-up (r i .date) s x w (sym (ps x) ∙ q)
+
       avail : (q : List Test) (t : Test) (f : List Test) → r i .tests ≡ q ++ (t ∷ f) → allMeet q p ≡ true → (w : ℕ) × (p (t .var) ≡ Some w)
       avail q t f z m = let g = supply-shown i s q (t .var) l (ok .tested i s l k q t f z) (meet-up q p V up m) in (g .0, ps (t .var) ∙ g .1)
 
@@ -169,12 +173,14 @@ module _ {S : Type 0} (next : S → Work → S) (answer : S → Work → ℕ) (r
     where
       none : at next answer r a n s x ≡ None → (w : ℕ) × (at next answer r a n s x ≡ Some w) → ⊥
       none e (w, q) = let z : _≡_ {A = ℕ} 0 1 = cc in omega arith
+
       off : at next answer r a n s x ≡ None → held L s x ≡ true → ⊥
       off e h = parts (or-cases _ _ h)
         where
           from-start : (o : Option ℕ) → a .places s x ≡ o → not (isNone o) ≡ true → ⊥
           from-start None z q = both-ways false refl q
           from-start (Some w) z q = none e (held-later next answer r a 0 n s x (omega arith) (w, row-zero next answer r a s x ∙ z))
+
           from-any : ((j : ℕ) × (j < n) × (puts s x j && leb (ends (r j)) L ≡ true)) ⊎ ((k : ℕ) → k < n → puts s x k && leb (ends (r k)) L ≡ false) → anyb (λ k. puts s x k && leb (ends (r k)) L) n ≡ true → ⊥
           from-any (inr h) q = both-ways _ (any-miss _ n h) q
           from-any (inl (j, l, h)) q =
@@ -182,9 +188,11 @@ module _ {S : Type 0} (next : S → Work → S) (answer : S → Work → ℕ) (r
               let g = and-parts (reaches (r j) s) _ (p .1) in
               let o : r j .out ≡ x = eqb-true _ _ (g .1) in
               none e (rw o at (held-later next answer r a (suc j) n s (r j .out) l (held-by next answer r a j s (p .0) (g .0))))
+
           parts : (not (isNone (a .places s x)) ≡ true) ⊎ (anyb (λ k. puts s x k && leb (ends (r k)) L) n ≡ true) → ⊥
           parts (inl q) = from-start (a .places s x) refl q
           parts (inr q) = from-any (find _ n) q
+
       go : (o : Option ℕ) → at next answer r a n s x ≡ o → shownAt L s x ≡ o
       go (Some w) e = shown-some L s x w (from-some n s x w (omega arith) e) (coh-final next answer r a n L basis ok n s x w (omega arith) e)
       go None e = ⊎-elim (λ h. absurd (off e h)) (λ h. cond-false _ _ _ h) (cases-bool (held L s x))

@@ -311,13 +311,14 @@ module _ {S : Type 0} (next : S → Work → S) (answer : S → Work → ℕ) (l
 
     quiet-inv : Quiet → (c : Bench S) → ((s x : ℕ) → c .places s x ≡ b .places s x) → ((m : ℕ) → c .cells m ≡ b .cells m) → c .plant ≡ b .plant → c .line ≡ b .line → ((k : ℕ) → c .mark k ≡ b .mark k)
         → ((u : ℕ) → (u ≡ j → ⊥) → c .units u ≡ b .units u) → UnitOk t true j (c .units j) → Inv t (suc j) c
-    quiet-inv q c ep ec es el em eg g = record
-      { pl = λ s x. ep s x ∙ v .pl s x
-      ; cl = λ m. ec m ∙ v .cl m
-      ; st = es ∙ v .st ∙ plants-same (quiet-own q)
-      ; gr = gears c eg g
-      ; ln = el ∙ v .ln ∙ ap msgOf (lines-same (quiet-own q))
-      ; mk = λ k l. em k ∙ v .mk k l ∙ mark-same k (quiet-own q k l) }
+    quiet-inv q c ep ec es el em eg g = record {
+      pl = λ s x. ep s x ∙ v .pl s x;
+      cl = λ m. ec m ∙ v .cl m;
+      st = es ∙ v .st ∙ plants-same (quiet-own q);
+      gr = gears c eg g;
+      ln = el ∙ v .ln ∙ ap msgOf (lines-same (quiet-own q));
+      mk = λ k l. em k ∙ v .mk k l ∙ mark-same k (quiet-own q k l);
+    }
 
     -- not due
     idle : UnitOk t false j (b .units j) → Quiet → resume t true (busyRow t true j) ≡ resume t false (busyRow t false j) ⊎ (wake (sh j) (resume t true (busyRow t true j)) ≡ wake (sh j) (resume t false (busyRow t false j))) → Inv t (suc j) b
@@ -342,6 +343,7 @@ module _ {S : Type 0} (next : S → Work → S) (answer : S → Work → ℕ) (l
       where
         g : UnitState
         g = record { at = T + (wake (sh j) (suc t) - t); pc = target (sh j) (oo j) (wake (sh j) (suc t)); busy = b .units j .busy }
+
         we : wakeOf t true j ≡ wake (sh j) (suc t)
         we = ap (λ o. wake (sh j) (resume t true o)) (sym (busy-quiet q) ∙ none)
 
@@ -507,6 +509,7 @@ module _ {S : Type 0} (next : S → Work → S) (answer : S → Work → ℕ) (l
             where
               sends-now : lineBy t (suc j) i ≡ true
               sends-now = and-from _ _ (and-from _ _ dd s) (and-from _ _ (own-now (r i .date) t (owner (r i)) j di (eqb-true _ _ q)) (lt-ltb _ _ long))
+
               one : (k : ℕ) → k < n → lineBy t (suc j) k ≡ true → k ≡ i
               one k l e =
                   let x = and-parts (do? k && r k .sends) _ e in
@@ -520,15 +523,19 @@ module _ {S : Type 0} (next : S → Work → S) (answer : S → Work → ℕ) (l
         where
           new : Mark
           new = record { count = suc (b .mark i .count); tick = T; first = said (ltb 0 (r i .count)) (word1 (r i) (b .places)); second = said (ltb 1 (r i .count)) (word2 (r i) (b .places)); given = Some (gives next answer knows r n L kp nk (r i) b) }
+
           old-i : own? ≡ true → b .mark i ≡ old i
           old-i q = v .mk i li ∙ cond-false (do? i && ownBegun t j i) (marked next answer knows r n L kp nk base a i (old i)) (old i) (and-right (do? i) (ownBegun t j i) (own-not (r i .date) t (owner (r i)) j di (eqb-true _ _ q)))
+
           fresh : own? ≡ true → new ≡ marked next answer knows r n L kp nk base a i (old i)
           fresh q = λ z. record { count = suc (old-i q z .count); tick = base + di′ z; first = said (ltb 0 (r i .count)) (words oq .0 z); second = said (ltb 1 (r i .count)) (words oq .1 z); given = Some (same-word oq z) }
             where
               di′ : t ≡ r i .date
               di′ = sym di
+
               oq : owner (r i) ≡ j
               oq = eqb-true _ _ q
+
           go : (own? ≡ true) ⊎ (own? ≡ false) → (i ≡ k) ⊎ (i ≡ k → ⊥) → cond (own? && eqb i k) new (b .mark k) ≡ markAt t (suc j) k
           go (inr q) e = cond-false _ _ _ (and-left _ _ q) ∙ v .mk k l ∙ mark-same k (not-own q k l)
           go (inl q) (inr ne) = cond-false _ _ _ (and-right _ _ (ne-eqb _ _ ne)) ∙ v .mk k l ∙ mark-same k (elsewhere k l (λ e. ne (sym e)))
@@ -537,14 +544,16 @@ module _ {S : Type 0} (next : S → Work → S) (answer : S → Work → ℕ) (l
       c-unit : UnitOk t true j (c .units j)
       unfolding c b1
       c-unit = subst (UnitOk t true j) (sym (cond-true _ _ _ (eq-eqb j j refl)))
-          (record
-            { ga = ap (λ (g : UnitState). g .at) (set-unit g1) ∙ late (wake (sh j) (ends (r i))) (omega (arith, wake-le (sh j) (ends (r i)), long)) ∙ ap (λ o. base + wake (sh j) (resume t true o)) (sym row-now)
-            ; gp = ap (λ (g : UnitState). g .pc) (set-unit g1) ∙ ap (λ o. target (sh j) (oo j) (wake (sh j) (resume t true o))) (sym row-now)
-            ; gb = ap₂ (λ x y. Some (record { stop = x; row = i; word = y })) stops (job-word (cases-bool own?)) ∙ ap (jobOf j) (sym row-now) })
+          (record {
+            ga = ap (λ (g : UnitState). g .at) (set-unit g1) ∙ late (wake (sh j) (ends (r i))) (omega (arith, wake-le (sh j) (ends (r i)), long)) ∙ ap (λ o. base + wake (sh j) (resume t true o)) (sym row-now);
+            gp = ap (λ (g : UnitState). g .pc) (set-unit g1) ∙ ap (λ o. target (sh j) (oo j) (wake (sh j) (resume t true o))) (sym row-now);
+            gb = ap₂ (λ x y. Some (record { stop = x; row = i; word = y })) stops (job-word (cases-bool own?)) ∙ ap (jobOf j) (sym row-now);
+          })
         where
           job-word : (own? ≡ true) ⊎ (own? ≡ false) → cond own? (gives next answer knows r n L kp nk (r i) b) 0 ≡ cond own? (word next answer r a i) 0
           job-word (inl q) = ap (λ y. cond own? y 0) (same-word (eqb-true _ _ q))
           job-word (inr q) = cond-false _ _ _ q ∙ sym (cond-false _ _ _ q)
+
           g1 : UnitState
           g1 = record { at = T + (wake (sh j) (ends (r i)) - t); pc = target (sh j) (oo j) (wake (sh j) (ends (r i))); busy = b .units j .busy }
 
@@ -579,10 +588,13 @@ module _ {S : Type 0} (next : S → Work → S) (answer : S → Work → ℕ) (l
           where
             at-i : k ≡ i → ⊥
             at-i e = both-ways (do? i) (h (and-from _ _ (ap (λ w. mine j (r w)) (sym e) ∙ mk′) (eq-eqb _ _ (ap (λ w. r w .date) (sym e) ∙ z)))) (ap do? (sym e) ∙ d)
+
         goal : Type 0
         goal = (c : Bench S) × (turn (sh j) (engine next answer knows r n L kp nk j T) (oo j) t i (suc m) b ≡ Some c) × Inv t (suc j) c
+
         on : (x : Option (Bench S)) → turn (sh j) (engine next answer knows r n L kp nk j T) (oo j) t i (suc m) b ≡ x → ((c : Bench S) × (x ≡ Some c) × Inv t (suc j) c) → goal
         on x p (c, z, w) = (c, p ∙ z, w)
+
         go : (due (sh j) t i ≡ true) ⊎ (due (sh j) t i ≡ false) → (do? i ≡ true) ⊎ (do? i ≡ false)
             → (((k : ℕ) → k < suc i → do? k ≡ true → mine j (r k) ≡ true → r k .date ≡ t → ⊥) → busyRow t false j ≡ None → (c : Bench S) × (turn (sh j) (engine next answer knows r n L kp nk j T) (oo j) t (suc i) m b ≡ Some c) × Inv t (suc j) c) → goal
         go (inr z) d ih = on _ (cond-false _ _ _ z) (ih (more (λ y. absurd (both-ways _ z y))) none)
@@ -590,13 +602,17 @@ module _ {S : Type 0} (next : S → Work → S) (answer : S → Work → ℕ) (l
           where
             p : (mine j (r i) ≡ true) × (eqb (r i .date) t ≡ true)
             p = and-parts _ _ z
+
             dt : r i .date ≡ t
             dt = eqb-true _ _ (p .1)
+
             li : i < n
             li = omega arith
+
             told : asks (engine next answer knows r n L kp nk j T) (r i .tests) b ≡ Some (do? i)
             told = row-asks next answer r a n L basis ok (engine next answer knows r n L kp nk j T) b i (j / 2) (b .places (j / 2)) (omega arith) (mine-says j (r i) (p .0) .near) (λ t. refl)
                 (λ x. v .pl (j / 2) x ∙ cond-true _ _ _ (or-right _ _ (lt-ltb (2 * (j / 2)) (suc j) (omega arith))) ∙ ap (λ w. shownAt next answer r a n L basis ok w (j / 2) x) (sym dt))
+
             by-do : (do? i ≡ true) ⊎ (do? i ≡ false) → goal
             by-do (inr d) = on _ (cond-true _ _ _ z ∙ ap (λ o. rowTurn (sh j) (engine next answer knows r n L kp nk j T) (oo j) t i o b (turn (sh j) (engine next answer knows r n L kp nk j T) (oo j) t (suc i) m b)) (told ∙ ap Some d)) (ih (more (λ _. d)) none)
             by-do (inl d) = on _ (cond-true _ _ _ z ∙ ap (λ o. rowTurn (sh j) (engine next answer knows r n L kp nk j T) (oo j) t i o b (turn (sh j) (engine next answer knows r n L kp nk j T) (oo j) t (suc i) m b)) (told ∙ ap Some d)) (_, performs i li (p .0) dt d none fb, performed-inv i li (p .0) dt d none fb)
@@ -607,6 +623,7 @@ module _ {S : Type 0} (next : S → Work → S) (answer : S → Work → ℕ) (l
       where
         not-due : (W : ℕ) → t < W → b .units j .at ≡ base + W → turnAt next answer knows r n L kp nk j T b ≡ Some b
         not-due W l e = cond-false _ _ _ (ne-eqb (b .units j .at) T (λ z. omega (arith, e, z)))
+
         running : (k : ℕ) → busyRow t false j ≡ Some k → (k < n) × (busyBy t false j k ≡ true) → (c : Bench S) × (turnAt next answer knows r n L kp nk j T b ≡ Some c) × Inv t (suc j) c
         running k e (lk, z) =
             let x = busy-says t j k false z in
@@ -616,6 +633,7 @@ module _ {S : Type 0} (next : S → Work → S) (answer : S → Work → ℕ) (l
             let two : resume t true (busyRow t true j) ≡ ends (r k) = ap (resume t true) (sym (busy-quiet q) ∙ e) in
             let w : wakeOf t false j ≡ wake (sh j) (ends (r k)) = ap (wake (sh j)) one in
             (b, not-due (wake (sh j) (ends (r k))) (omega (arith, wake-le (sh j) (ends (r k)), x .till)) (gj .ga ∙ ap (λ y. base + y) w), idle gj q (inl (two ∙ sym one)))
+
         resting : busyRow t false j ≡ None → (isDate (sh j) t ≡ true) ⊎ (isDate (sh j) t ≡ false) → (c : Bench S) × (turnAt next answer knows r n L kp nk j T b ≡ Some c) × Inv t (suc j) c
         resting e (inr d) =
             let q : Quiet = λ i li di mi ei. both-ways (isDate (sh j) t) d (due-date (sh j) t i li (and-from _ _ mi (eq-eqb _ _ ei))) in
@@ -627,15 +645,19 @@ module _ {S : Type 0} (next : S → Work → S) (answer : S → Work → ℕ) (l
           where
             w : wakeOf t false j ≡ t
             w = ap (λ o. wake (sh j) (resume t false o)) e ∙ wake-date (sh j) t lt d
+
             here : b .units j .pc ≡ addr (sh j) (oo j) t
             here = gj .gp ∙ ap (target (sh j) (oo j)) w ∙ cond-true _ _ _ (lt-ltb t L lt)
+
             runs-it : turnAt next answer knows r n L kp nk j T b ≡ turn (sh j) (engine next answer knows r n L kp nk j T) (oo j) t 0 n b
             runs-it = cond-true _ _ _ (eq-eqb _ _ (gj .ga ∙ ap (λ y. base + y) w))
                 ∙ cond-true _ _ _ (ap isNone (gj .gb ∙ ap (jobOf j) e))
                 ∙ ap (λ pc. exec (engine next answer knows r n L kp nk j T) (program r n L kp nk j) (suc (length (program r n L kp nk j))) pc b) here
                 ∙ subst (λ o. exec (engine next answer knows r n L kp nk j T) (program r n L kp nk j) (suc (length (program r n L kp nk j))) (addr (sh j) o t) b ≡ turn (sh j) (engine next answer knows r n L kp nk j T) o t 0 n b) (length-opening (sh j) (headOf kp nk j)) (layout-any (sh j) (opening (sh j) (headOf kp nk j)) t lt d (engine next answer knows r n L kp nk j T) b)
+
             waking : (c : Bench S) × (turn (sh j) (engine next answer knows r n L kp nk j T) (oo j) t 0 n b ≡ Some c) × Inv t (suc j) c → (c : Bench S) × (turnAt next answer knows r n L kp nk j T b ≡ Some c) × Inv t (suc j) c
             waking (c, z, y) = (c, runs-it ∙ z, y)
+
         go : (o : Option ℕ) → busyRow t false j ≡ o → (c : Bench S) × (turnAt next answer knows r n L kp nk j T b ≡ Some c) × Inv t (suc j) c
         go None e = resting e (cases-bool (isDate (sh j) t))
         go (Some k) e = running k e (from (pick-inv (busyBy t false j) (λ k. k) n k e))
@@ -655,6 +677,7 @@ module _ {S : Type 0} (next : S → Work → S) (answer : S → Work → ℕ) (l
     where
       opn : (s : ℕ) → open? t j s ≡ true
       opn s = or-left _ _ (lt-ltb 0 t pos)
+
       opn′ : (s : ℕ) → open? t (suc j) s ≡ true
       opn′ s = or-left _ _ (lt-ltb 0 t pos)
 
@@ -672,6 +695,7 @@ module _ {S : Type 0} (next : S → Work → S) (answer : S → Work → ℕ) (l
     where
       nothing : anyb (λ k. puts next answer r a n L basis ok s x k && leb (ends (r k)) 0) n ≡ false
       nothing = any-miss _ n (λ k l. and-right _ _ (lt-leb (ends (r k)) 0 (omega (arith, ok .long k l))))
+
       go : (w : Option ℕ) → a .places s x ≡ w → shownAt next answer r a n L basis ok 0 s x ≡ w
       go None e = cond-false _ _ _ (ap₂ (λ p q. not (isNone p) || q) e nothing)
       go (Some w) e = shown-some next answer r a n L basis ok 0 s x w (held-start next answer r a n L basis ok 0 s x w e) (start-val next answer r a n L basis ok s x w e)
@@ -713,10 +737,14 @@ module _ {S : Type 0} (next : S → Work → S) (answer : S → Work → ℕ) (l
         on (c, z, w) = (c, runs-0 ∙ ap (turn (sh j) eng (oo j) 0 0 n) e ∙ z, w)
 
     line-pre : j % 2 ≡ 1 → Pre 0 j b
-    line-pre odd = record
-      { pl = λ s x. v .pl s x ∙ ap (λ w. cond w (shownAt next answer r a n L basis ok 0 s x) (prev s x)) (still-open j s (λ e. omega arith))
-      ; cl = λ m. v .cl m ∙ ap (λ w. cond w (c1 m) (c0 m)) (still-open j (kp m .st) (λ e. omega arith))
-      ; st = v .st; gr = λ u lu ne. v .gr u lu; ln = v .ln; mk = v .mk }
+    line-pre odd = record {
+      pl = λ s x. v .pl s x ∙ ap (λ w. cond w (shownAt next answer r a n L basis ok 0 s x) (prev s x)) (still-open j s (λ e. omega arith));
+      cl = λ m. v .cl m ∙ ap (λ w. cond w (c1 m) (c0 m)) (still-open j (kp m .st) (λ e. omega arith));
+      st = v .st;
+      gr = λ u lu ne. v .gr u lu;
+      ln = v .ln;
+      mk = v .mk;
+    }
 
     module _ (even : 2 * (j / 2) ≡ j) where
       abbrev s0 : ℕ
@@ -729,10 +757,14 @@ module _ {S : Type 0} (next : S → Work → S) (answer : S → Work → ℕ) (l
       new-cell m e = cond-true _ _ _ (eq-eqb _ _ e) ∙ ap₂ (λ p q. cond (ltb m nk) (takeIn p q) q) (ap (λ w. b .places w (kp m .from)) e ∙ old-place (kp m .from) ∙ ap (λ w. prev w (kp m .from)) (sym e)) (v .cl m ∙ cond-false _ _ _ (ap (open? 0 j) e ∙ not-open j s0 even))
 
       work-pre : Pre 0 j (prepared next answer knows r n L kp nk s0 b)
-      work-pre = record
-        { pl = λ s x. ⊎-elim (here s x) (λ ne. cond-false _ _ _ (ne-eqb _ _ ne) ∙ v .pl s x ∙ ap (λ w. cond w (shownAt next answer r a n L basis ok 0 s x) (prev s x)) (still-open j s (λ e. ne (omega arith)))) (cases-eq s0 s)
-        ; cl = λ m. ⊎-elim (λ e. new-cell m e ∙ sym (cond-true _ _ _ (now-open 0 (suc j) (kp m .st) (omega (arith, e))))) (λ ne. cond-false _ _ _ (ne-eqb _ _ ne) ∙ v .cl m ∙ ap (λ w. cond w (c1 m) (c0 m)) (still-open j (kp m .st) (λ e. ne (omega arith)))) (cases-eq (kp m .st) s0)
-        ; st = v .st; gr = λ u lu ne. v .gr u lu; ln = v .ln; mk = v .mk }
+      work-pre = record {
+        pl = λ s x. ⊎-elim (here s x) (λ ne. cond-false _ _ _ (ne-eqb _ _ ne) ∙ v .pl s x ∙ ap (λ w. cond w (shownAt next answer r a n L basis ok 0 s x) (prev s x)) (still-open j s (λ e. ne (omega arith)))) (cases-eq s0 s);
+        cl = λ m. ⊎-elim (λ e. new-cell m e ∙ sym (cond-true _ _ _ (now-open 0 (suc j) (kp m .st) (omega (arith, e))))) (λ ne. cond-false _ _ _ (ne-eqb _ _ ne) ∙ v .cl m ∙ ap (λ w. cond w (c1 m) (c0 m)) (still-open j (kp m .st) (λ e. ne (omega arith)))) (cases-eq (kp m .st) s0);
+        st = v .st;
+        gr = λ u lu ne. v .gr u lu;
+        ln = v .ln;
+        mk = v .mk;
+      }
         where
           here : (s x : ℕ) → s0 ≡ s → cond (eqb s0 s) (startOf kp nk (cellsAt next answer knows r n L kp nk s0 b) s0 x) (b .places s x) ≡ placeAt 0 (suc j) s x
           here s x e = cond-true _ _ _ (eq-eqb _ _ e)
@@ -885,14 +917,15 @@ module _ {S : Type 0} (next : S → Work → S) (answer : S → Work → ℕ) (l
 
     moved : (c : Bench S) → ((s x : ℕ) → c .places s x ≡ midShown t (suc j) s x) → ((m : ℕ) → c .cells m ≡ b .cells m) → c .plant ≡ b .plant → c .line ≡ b .line → ((k : ℕ) → c .mark k ≡ b .mark k)
         → ((u : ℕ) → (u ≡ j → ⊥) → c .units u ≡ b .units u) → UnitOk (suc t) false j (c .units j) → Mid t (suc j) c
-    moved c p w s l m g h = record
-      { pl = p
-      ; cl = λ m. w m ∙ v .cl m
-      ; st = s ∙ v .st
-      ; lo = λ u lu k. ⊎-elim (λ e. subst (λ w. UnitOk (suc t) false w (c .units w)) (sym e) h) (λ ne. subst (UnitOk (suc t) false u) (sym (g u ne)) (v .lo u lu (omega arith))) (cases-eq u j)
-      ; hi = λ u lu k. subst (UnitOk t true u) (sym (g u (λ e. omega arith))) (v .hi u lu (omega arith))
-      ; ln = l ∙ v .ln
-      ; mk = λ k l. m k ∙ v .mk k l }
+    moved c p w s l m g h = record {
+      pl = p;
+      cl = λ m. w m ∙ v .cl m;
+      st = s ∙ v .st;
+      lo = λ u lu k. ⊎-elim (λ e. subst (λ w. UnitOk (suc t) false w (c .units w)) (sym e) h) (λ ne. subst (UnitOk (suc t) false u) (sym (g u ne)) (v .lo u lu (omega arith))) (cases-eq u j);
+      hi = λ u lu k. subst (UnitOk t true u) (sym (g u (λ e. omega arith))) (v .hi u lu (omega arith));
+      ln = l ∙ v .ln;
+      mk = λ k l. m k ∙ v .mk k l;
+    }
 
     stays : ((k : ℕ) → k < n → busyBy t true j k ≡ true → ends (r k) ≡ suc t → ⊥) → b .units j .busy ≡ jobOf j (busyRow (suc t) false j) → Mid t (suc j) b
     stays h e = moved b (λ s x. v .pl s x ∙ mid-same t j s x (λ k l p y o. h k l (lands-busy t j s x k l p y o) y)) (λ m. refl) refl refl (λ k. refl) (λ u ne. refl) (unit-onward t j (b .units j) (b .units j .busy) hj e)
@@ -923,6 +956,7 @@ module _ {S : Type 0} (next : S → Work → S) (answer : S → Work → ℕ) (l
                   let ok2 : 2 * s + cond (r k .sends) 1 0 ≡ j = ap (λ w. 2 * w + cond (r k .sends) 1 0) (sym es) ∙ oj in
                   cond-true _ _ _ q ∙ sym (ap V? (sym ey) ∙ word-final next answer r a n L basis ok k l (x .doing))
                   ∙ sym (cond-true _ _ _ (or-right _ _ (any-hit (λ i. puts? s y i && lands t (suc j) s i) n k l (and-from _ _ pk (lands-now (ends (r k)) t (2 * s + cond (r k .sends) 1 0) j en ok2)))))
+
               miss : eqb (j / 2) s && eqb (r k .out) y ≡ false → cond (eqb (j / 2) s && eqb (r k .out) y) (Some (word next answer r a k)) (b .places s y) ≡ midShown t (suc j) s y
               miss q = cond-false _ _ _ q ∙ v .pl s y ∙ mid-same t j s y none
                 where
@@ -947,8 +981,10 @@ module _ {S : Type 0} (next : S → Work → S) (answer : S → Work → ℕ) (l
         where
           my : Mine j (r k)
           my = mine-says j (r k) (x .here)
+
           row-at : (w : ℕ) → own next answer knows r n L kp nk j (q .row) ≡ own next answer knows r n L kp nk j k
           row-at w = ap (own next answer knows r n L kp nk j) ek
+
           go : (isLine j ≡ true) ⊎ (isLine j ≡ false) → (own next answer knows r n L kp nk j k ≡ true) ⊎ (own next answer knows r n L kp nk j k ≡ false) → Mine j (r k) → (c : Bench S) × (land next answer knows r n L kp nk T′ j q b ≡ Some c) × Mid t (suc j) c
           go (inl i) (inl o) m = (_, cond-true _ _ _ i ∙ cond-true _ _ _ (row-at 0 ∙ o), releases deaf)
             where
@@ -958,19 +994,25 @@ module _ {S : Type 0} (next : S → Work → S) (answer : S → Work → ℕ) (l
             where
               sk : r k .sends ≡ true
               sk = m .kind ∙ i
+
               odd : j % 2 ≡ 1
               odd = eqb-true _ _ i
+
               bit : _≡_ {A = ℕ} (cond (r k .sends) 1 0) 1
               bit = cond-true _ _ _ sk
+
               hears : reaches (r k) (j / 2) ≡ true
               hears = cond-true _ _ _ sk ∙ ⊎-elim (λ e. absurd (eqb-false _ _ o (omega (arith, e, odd, bit)))) (λ e. e .1) (m .near)
+
               on-line : b .line ≡ Some (record { stop = base + ends (r k); word = word next answer r a k })
               on-line = v .ln ∙ ap msgOf (pick-some (lineBy t (2 * stations)) (λ k. k) n k l mine-now one)
                 where
                   all-begun : (d t o j : ℕ) → d ≤ t → o < j → (ltb d t || (eqb d t && ltb o j)) ≡ true
                   all-begun d t o j p q = grind (arith, tells)
+
                   mine-now : lineBy t (2 * stations) k ≡ true
                   mine-now = and-from _ _ (and-from _ _ (x .doing) sk) (and-from _ _ (all-begun (r k .date) t (owner (r k)) (2 * stations) (unit-early _ _ _ (x .since)) (omega (arith, fit .stationed k l, bit))) (lt-ltb _ _ (x .till)))
+
                   one : (i : ℕ) → i < n → lineBy t (2 * stations) i ≡ true → i ≡ k
                   one i li e =
                       let y = and-parts (do? i && r i .sends) _ e in
@@ -981,10 +1023,13 @@ module _ {S : Type 0} (next : S → Work → S) (answer : S → Work → ℕ) (l
             where
               ck : r k .sends ≡ false
               ck = m .kind ∙ i
+
               even : j % 2 ≡ 1 → ⊥
               even = eqb-false _ _ i
+
               bit : _≡_ {A = ℕ} (cond (r k .sends) 1 0) 0
               bit = cond-false _ _ _ ck
+
               at-home : reaches (r k) (j / 2) ≡ true
               at-home = cond-false _ _ _ ck ∙ eq-eqb _ _ (m .home ck)
 
@@ -993,9 +1038,11 @@ module _ {S : Type 0} (next : S → Work → S) (answer : S → Work → ℕ) (l
       where
         go : Next t j → (c : Bench S) × (ended next answer knows r n L kp nk (b .units j .busy) T′ j b ≡ Some c) × Mid t (suc j) c
         go (inr (h, e, f)) = (b, ap (λ o. ended next answer knows r n L kp nk o T′ j b) (hj .gb ∙ ap (jobOf j) e), stays (λ k l z y. both-ways _ (h k l) z) (hj .gb ∙ ap (jobOf j) (e ∙ sym f)))
-        go (inl (k, (l, z, e), inr (ne, f))) =
-            (b, ap (λ o. ended next answer knows r n L kp nk o T′ j b) (hj .gb ∙ ap (jobOf j) e) ∙ cond-false _ _ _ (ne-eqb (base + ends (r k)) T′ (λ y. ne (omega (arith, y)))),
-              stays (λ i li y w. ne (ap (λ q. ends (r q)) (sym (busy-one t j k i true l li z y)) ∙ w)) (hj .gb ∙ ap (jobOf j) (e ∙ sym f)))
+        go (inl (k, (l, z, e), inr (ne, f))) = (
+          b,
+          ap (λ o. ended next answer knows r n L kp nk o T′ j b) (hj .gb ∙ ap (jobOf j) e) ∙ cond-false _ _ _ (ne-eqb (base + ends (r k)) T′ (λ y. ne (omega (arith, y)))),
+          stays (λ i li y w. ne (ap (λ q. ends (r q)) (sym (busy-one t j k i true l li z y)) ∙ w)) (hj .gb ∙ ap (jobOf j) (e ∙ sym f)),
+        )
         go (inl (k, (l, z, e), inl (y, f))) = on (landing k l z y f (record { stop = base + ends (r k); row = k; word = cond (own next answer knows r n L kp nk j k) (word next answer r a k) 0 }) refl refl)
           where
             on : (c : Bench S) × (land next answer knows r n L kp nk T′ j (record { stop = base + ends (r k); row = k; word = cond (own next answer knows r n L kp nk j k) (word next answer r a k) 0 }) b ≡ Some c) × Mid t (suc j) c
@@ -1024,6 +1071,7 @@ module _ {S : Type 0} (next : S → Work → S) (answer : S → Work → ℕ) (l
         where
           shut : (a j : ℕ) → j ≤ a → (ltb 0 0 || ltb a j) ≡ false
           shut a j h = grind (arith, tells)
+
           nobody : (m : ℕ) → m < nk → eqb (kp m .st) s && eqb (kp m .into) x ≡ false
           nobody m lm = and-left _ _ (ne-eqb (kp m .st) s (λ e. omega (arith, kin m lm, e)))
 
@@ -1039,14 +1087,15 @@ module _ {S : Type 0} (next : S → Work → S) (answer : S → Work → ℕ) (l
           both false w = refl
 
   to-mid : (t : ℕ) (b : Bench S) → Inv t (2 * stations) b → Mid t 0 b
-  to-mid t b v = record
-    { pl = λ s x. v .pl s x ∙ placed-all t s x ∙ ap (λ w. cond (not (isNone (a .places s x)) || w) (V? x) None) (any-same _ _ n (λ k l. ap (λ w. puts? s x k && w) (none-yet (ends (r k)) t (2 * s + cond (r k .sends) 1 0))))
-    ; cl = λ m. v .cl m ∙ celled-all t m
-    ; st = v .st
-    ; lo = λ u lu k. absurd (omega arith)
-    ; hi = λ u lu k. had-unit t u (b .units u) (subst (λ hd. UnitIs t hd u (b .units u)) (lt-ltb u (2 * stations) lu) (v .gr u lu))
-    ; ln = v .ln
-    ; mk = v .mk }
+  to-mid t b v = record {
+    pl = λ s x. v .pl s x ∙ placed-all t s x ∙ ap (λ w. cond (not (isNone (a .places s x)) || w) (V? x) None) (any-same _ _ n (λ k l. ap (λ w. puts? s x k && w) (none-yet (ends (r k)) t (2 * s + cond (r k .sends) 1 0))));
+    cl = λ m. v .cl m ∙ celled-all t m;
+    st = v .st;
+    lo = λ u lu k. absurd (omega arith);
+    hi = λ u lu k. had-unit t u (b .units u) (subst (λ hd. UnitIs t hd u (b .units u)) (lt-ltb u (2 * stations) lu) (v .gr u lu));
+    ln = v .ln;
+    mk = v .mk;
+  }
     where
       none-yet : (e t o : ℕ) → leb e t ≡ (leb e t || (eqb e (suc t) && ltb o 0))
       none-yet e t o = grind (arith, tells)
@@ -1093,10 +1142,13 @@ module _ {S : Type 0} (next : S → Work → S) (answer : S → Work → ℕ) (l
     where
       U : ℕ
       U = 2 * stations
+
       before : (k : ℕ) → k < n → lineBy (suc t) 0 k ≡ true → (lineBy t (2 * stations) k ≡ true) × (suc t < ends (r k))
       before k l e = let y = line-says (suc t) 0 k e in (line-from t (2 * stations) k (y .0) (y .1) (begun-after t k l ∙ y .2) (omega (arith, y .3)), y .3)
+
       off : ((k : ℕ) → k < n → lineBy (suc t) 0 k ≡ true → ⊥) → pick (lineBy (suc t) 0) (λ k. k) n ≡ None
       off h = pick-none (lineBy (suc t) 0) (λ k. k) n (λ k l. ⊎-elim (λ z. absurd (h k l z)) (λ z. z) (cases-bool (lineBy (suc t) 0 k)))
+
       go : ((j : ℕ) × (j < n) × (lineBy t (2 * stations) j ≡ true)) ⊎ ((k : ℕ) → k < n → lineBy t (2 * stations) k ≡ false)
           → left next answer knows r n L kp nk (msgOf (pick (lineBy t (2 * stations)) (λ k. k) n)) (base + suc t) ≡ msgOf (pick (lineBy (suc t) 0) (λ k. k) n)
       go (inr h) = ap (λ o. left next answer knows r n L kp nk (msgOf o) (base + suc t)) (pick-none (lineBy t (2 * stations)) (λ k. k) n h) ∙ sym (ap msgOf (off (λ k l z. both-ways _ (h k l) (before k l z .0))))
@@ -1115,20 +1167,23 @@ module _ {S : Type 0} (next : S → Work → S) (answer : S → Work → ℕ) (l
             where
               x : (do? k ≡ true) × (r k .sends ≡ true) × (ownBegun t (2 * stations) k ≡ true) × (t < ends (r k))
               x = line-says t (2 * stations) k z
+
               on : lineBy (suc t) 0 k ≡ true
               on = line-from (suc t) 0 k (x .0) (x .1) (sym (begun-after t k l) ∙ x .2) (omega (arith, x .3, ne))
 
   finish : (t : ℕ) (b : Bench S) → Mid t (2 * stations) b → Inv (suc t) 0 (leave next answer knows r n L kp nk (base + suc t) b)
-  finish t b v = record
-    { pl = λ s x. v .pl s x ∙ ap (λ w. cond (not (isNone (a .places s x)) || w) (V? x) None) (any-same _ _ n (λ k l. landed s x k l (cases-bool (puts? s x k)))) ∙ sym (cond-true _ _ _ (or-left _ _ (lt-ltb 0 (suc t) (omega arith))))
-    ; cl = λ m. v .cl m ∙ sym (cond-true _ _ _ (or-left _ _ (lt-ltb 0 (suc t) (omega arith))))
-    ; st = v .st ∙ same-set next answer law works (begunCalls t (2 * stations)) (begunCalls (suc t) 0) (a .plant) n (λ k l. ap (λ w. ((do? k && not (r k .sends)) && ltb k n) && w) (begun-after t k l))
-    ; gr = λ u lu. subst (λ hd. UnitOk (suc t) hd u (b .units u)) (sym (le-ltb u 0 (omega arith))) (v .lo u lu lu)
-    ; ln = ap (λ o. left next answer knows r n L kp nk o (base + suc t)) (v .ln) ∙ line-left t
-    ; mk = λ k l. v .mk k l ∙ ap (λ w. cond (do? k && w) (marked next answer knows r n L kp nk base a k (old k)) (old k)) (begun-after t k l) }
+  finish t b v = record {
+    pl = λ s x. v .pl s x ∙ ap (λ w. cond (not (isNone (a .places s x)) || w) (V? x) None) (any-same _ _ n (λ k l. landed s x k l (cases-bool (puts? s x k)))) ∙ sym (cond-true _ _ _ (or-left _ _ (lt-ltb 0 (suc t) (omega arith))));
+    cl = λ m. v .cl m ∙ sym (cond-true _ _ _ (or-left _ _ (lt-ltb 0 (suc t) (omega arith))));
+    st = v .st ∙ same-set next answer law works (begunCalls t (2 * stations)) (begunCalls (suc t) 0) (a .plant) n (λ k l. ap (λ w. ((do? k && not (r k .sends)) && ltb k n) && w) (begun-after t k l));
+    gr = λ u lu. subst (λ hd. UnitOk (suc t) hd u (b .units u)) (sym (le-ltb u 0 (omega arith))) (v .lo u lu lu);
+    ln = ap (λ o. left next answer knows r n L kp nk o (base + suc t)) (v .ln) ∙ line-left t;
+    mk = λ k l. v .mk k l ∙ ap (λ w. cond (do? k && w) (marked next answer knows r n L kp nk base a k (old k)) (old k)) (begun-after t k l);
+  }
     where
       all-landed : (e t o j : ℕ) → o < j → (leb e t || (eqb e (suc t) && ltb o j)) ≡ leb e (suc t)
       all-landed e t o j h = grind (arith, tells)
+
       landed : (s x k : ℕ) → k < n → (puts? s x k ≡ true) ⊎ (puts? s x k ≡ false) → puts? s x k && lands t (2 * stations) s k ≡ puts? s x k && leb (ends (r k)) (suc t)
       landed s x k l (inr q) = and-left _ _ q ∙ sym (and-left _ _ q)
       landed s x k l (inl q) = ap (λ w. puts? s x k && w) (all-landed (ends (r k)) t (2 * s + cond (r k .sends) 1 0) (2 * stations) (lander-in s x k l q))
@@ -1139,16 +1194,18 @@ module _ {S : Type 0} (next : S → Work → S) (answer : S → Work → ℕ) (l
     where
       e : suc (base + t) ≡ base + suc t
       e = omega arith
+
       go : (c : Bench S) × (firstTo next answer knows r n L kp nk (base + t) (2 * stations) b ≡ Some c) × Inv t (2 * stations) c → (c : Bench S) × (tick next answer knows r n L kp nk (2 * stations) (base + t) b ≡ Some c) × Inv (suc t) 0 c
       go (c, z, y) = on (second-part t (2 * stations) (omega arith) c (to-mid t c y))
         where
           on : (d : Bench S) × (settleTo next answer knows r n L kp nk (base + suc t) (2 * stations) c ≡ Some d) × Mid t (2 * stations) d → (d : Bench S) × (tick next answer knows r n L kp nk (2 * stations) (base + t) b ≡ Some d) × Inv (suc t) 0 d
-          on (d, x, w) =
-              ( leave next answer knows r n L kp nk (base + suc t) d
-              , ap (λ o. bind o (λ c. bind (settleTo next answer knows r n L kp nk (suc (base + t)) (2 * stations) c) (λ d. Some (leave next answer knows r n L kp nk (suc (base + t)) d)))) z
+          on (d, x, w) = (
+            leave next answer knows r n L kp nk (base + suc t) d,
+            ap (λ o. bind o (λ c. bind (settleTo next answer knows r n L kp nk (suc (base + t)) (2 * stations) c) (λ d. Some (leave next answer knows r n L kp nk (suc (base + t)) d)))) z
                 ∙ ap (λ T. bind (settleTo next answer knows r n L kp nk T (2 * stations) c) (λ d. Some (leave next answer knows r n L kp nk T d))) e
-                ∙ ap (λ o. bind o (λ d. Some (leave next answer knows r n L kp nk (base + suc t) d))) x
-              , finish t d w )
+                ∙ ap (λ o. bind o (λ d. Some (leave next answer knows r n L kp nk (base + suc t) d))) x,
+            finish t d w,
+          )
 
   all-ticks : (t : ℕ) → t ≤ L → (b : Bench S) → Inv 0 0 b → (c : Bench S) × (ticks next answer knows r n L kp nk (2 * stations) base t b ≡ Some c) × Inv t 0 c
   unfolding ticks
@@ -1168,13 +1225,14 @@ module _ {S : Type 0} (next : S → Work → S) (answer : S → Work → ℕ) (l
   after-none D s (suc m) h = cond-false _ _ _ (h m (omega arith)) ∙ after-none D s m (λ k l. h k (omega arith))
 
   pub opens : (b : Bench S) → ((k : ℕ) → b .mark k ≡ old k) → ((s x : ℕ) → b .places s x ≡ prev s x) → ((m : ℕ) → b .cells m ≡ c0 m) → b .plant ≡ a .plant → Opened next answer knows r n L kp nk stations base b → Inv 0 0 b
-  opens b em ep ec es o = record
-    { pl = λ s x. ep s x ∙ sym (cond-false _ _ _ (shut (2 * s)))
-    ; cl = λ m. ec m ∙ sym (cond-false _ _ _ (shut (2 * kp m .st)))
-    ; st = es ∙ sym (after-none (begunCalls 0 0) (a .plant) n (λ k l. and-right _ _ (none-begun (r k .date) (owner (r k)))))
-    ; gr = λ u lu. subst (λ hd. UnitIs 0 hd u (b .units u)) (sym (le-ltb u 0 (omega arith))) (o .at u lu, o .pc u lu, o .free u lu)
-    ; ln = o .line ∙ sym (ap msgOf (pick-none (lineBy 0 0) (λ k. k) n (λ k l. and-right _ _ (and-left _ _ (none-begun (r k .date) (owner (r k)))))))
-    ; mk = λ k l. em k ∙ sym (cond-false _ _ _ (and-right _ _ (none-begun (r k .date) (owner (r k))))) }
+  opens b em ep ec es o = record {
+    pl = λ s x. ep s x ∙ sym (cond-false _ _ _ (shut (2 * s)));
+    cl = λ m. ec m ∙ sym (cond-false _ _ _ (shut (2 * kp m .st)));
+    st = es ∙ sym (after-none (begunCalls 0 0) (a .plant) n (λ k l. and-right _ _ (none-begun (r k .date) (owner (r k)))));
+    gr = λ u lu. subst (λ hd. UnitIs 0 hd u (b .units u)) (sym (le-ltb u 0 (omega arith))) (o .at u lu, o .pc u lu, o .free u lu);
+    ln = o .line ∙ sym (ap msgOf (pick-none (lineBy 0 0) (λ k. k) n (λ k l. and-right _ _ (and-left _ _ (none-begun (r k .date) (owner (r k)))))));
+    mk = λ k l. em k ∙ sym (cond-false _ _ _ (and-right _ _ (none-begun (r k .date) (owner (r k)))));
+  }
     where
       shut : (x : ℕ) → (ltb 0 0 || ltb x 0) ≡ false
       shut x = grind (arith, tells)
@@ -1192,50 +1250,62 @@ module _ {S : Type 0} (next : S → Work → S) (answer : S → Work → ℕ) (l
     pub again : Opened next answer knows r n L kp nk stations (base + L) c
 
   pub closes : (c : Bench S) → Inv L 0 c → Ended c
-  closes c v = record
-    { places = λ s x. here s x ∙ at-end next answer r a n L basis ok s x
-    ; cells = λ m. v .cl m ∙ cond-true _ _ _ (or-left _ _ (lt-ltb 0 L posL))
-    ; plant = v .st ∙ same-set next answer law works (begunCalls L 0) (λ k. do? k && not (r k .sends)) (a .plant) n all ∙ sym (plant-from n)
-    ; mark = λ k l. v .mk k l ∙ ap (λ x. cond x (marked next answer knows r n L kp nk base a k (old k)) (old k)) (front (do? k) (ownBegun L 0 k) (begun k l))
-    ; again = record
-      { at = λ u lu. g u lu .ga ∙ ap (λ w. base + w) (w u)
-      ; pc = λ u lu. g u lu .gp ∙ ap (target (sh u) (oo u)) (w u) ∙ cond-false _ _ _ (le-ltb L L (omega arith))
-      ; free = λ u lu. g u lu .gb ∙ ap (jobOf u) (none u)
-      ; line = v .ln ∙ ap msgOf (pick-none (lineBy L 0) (λ k. k) n (λ k l. and-right (do? k && r k .sends) _ (and-right (ownBegun L 0 k) (ltb L (ends (r k))) (over k l))))
-      ; out = λ s x ls. here s x ∙ empty s x ls } }
+  closes c v = record {
+    places = λ s x. here s x ∙ at-end next answer r a n L basis ok s x;
+    cells = λ m. v .cl m ∙ cond-true _ _ _ (or-left _ _ (lt-ltb 0 L posL));
+    plant = v .st ∙ same-set next answer law works (begunCalls L 0) (λ k. do? k && not (r k .sends)) (a .plant) n all ∙ sym (plant-from n);
+    mark = λ k l. v .mk k l ∙ ap (λ x. cond x (marked next answer knows r n L kp nk base a k (old k)) (old k)) (front (do? k) (ownBegun L 0 k) (begun k l));
+    again = record {
+      at = λ u lu. g u lu .ga ∙ ap (λ w. base + w) (w u);
+      pc = λ u lu. g u lu .gp ∙ ap (target (sh u) (oo u)) (w u) ∙ cond-false _ _ _ (le-ltb L L (omega arith));
+      free = λ u lu. g u lu .gb ∙ ap (jobOf u) (none u);
+      line = v .ln ∙ ap msgOf (pick-none (lineBy L 0) (λ k. k) n (λ k l. and-right (do? k && r k .sends) _ (and-right (ownBegun L 0 k) (ltb L (ends (r k))) (over k l))));
+      out = λ s x ls. here s x ∙ empty s x ls;
+    };
+  }
     where
       here : (s x : ℕ) → c .places s x ≡ shownAt next answer r a n L basis ok L s x
       here s x = v .pl s x ∙ cond-true _ _ _ (or-left _ _ (lt-ltb 0 L posL))
+
       over : (k : ℕ) → k < n → ltb L (ends (r k)) ≡ false
       over k l = le-ltb L (ends (r k)) (ok .inside k l)
+
       begun : (k : ℕ) → k < n → ownBegun L 0 k ≡ true
       begun k l = or-left _ _ (lt-ltb (r k .date) L (omega (arith, ok .inside k l, ok .long k l)))
+
       front : (x y : Bool) → y ≡ true → x && y ≡ x
       front x y h = grind arith
+
       all : (k : ℕ) → k < n → begunCalls L 0 k ≡ do? k && not (r k .sends)
       all k l = front _ _ (begun k l) ∙ front _ _ (lt-ltb k n l)
+
       none : (u : ℕ) → busyRow L false u ≡ None
       none u = pick-none (busyBy L false u) (λ k. k) n (λ k l. and-right (do? k && mine u (r k)) _ (and-right (unitBegun L false k) (ltb L (ends (r k))) (over k l)))
+
       w : (u : ℕ) → wakeOf L false u ≡ L
       w u = ap (λ o. wake (sh u) (resume L false o)) (none u) ∙ wake-end (sh u)
+
       g : (u : ℕ) → u < 2 * stations → UnitOk L false u (c .units u)
       g u lu = unit-on L u false (c .units u) posL (subst (λ hd. UnitIs L hd u (c .units u)) (le-ltb u 0 (omega arith)) (v .gr u lu))
+
       -- nothing lands outside the fewStations
       empty : (s x : ℕ) → stations ≤ s → shownAt next answer r a n L basis ok L s x ≡ None
       empty s x ls = cond-false _ _ _ (ap₂ (λ p q. not (isNone p) || q) (ea s x ∙ pick-none _ _ nk nobody) (any-miss _ n nowhere))
         where
           nobody : (m : ℕ) → m < nk → eqb (kp m .st) s && eqb (kp m .into) x ≡ false
           nobody m lm = and-left _ _ (ne-eqb (kp m .st) s (λ e. omega (arith, kin m lm, e)))
+
           nowhere : (k : ℕ) → k < n → puts? s x k && leb (ends (r k)) L ≡ false
           nowhere k lk = and-left _ _ (⊎-elim (λ p. absurd (omega (arith, lander-in s x k lk p))) (λ p. p) (cases-bool (puts? s x k)))
 
 pub cycle-stands : {S : Type 0} (next : S → Work → S) (answer : S → Work → ℕ) → Lawful S next answer → CyclePromise S next answer
 cycle-stands {S} next answer law knows r n L kp nk stations base basis b posL kin ok fit o =
     go (all-ticks next answer law knows r n L kp nk stations base a basis ok fit (b .mark) (b .places) (b .cells) (λ s x. refl) kin (o .out) posL L (omega arith) b
-        (opens next answer law knows r n L kp nk stations base a basis ok fit (b .mark) (b .places) (b .cells) (λ s x. refl) kin (o .out) posL b (λ k. refl) (λ s x. refl) (λ m. refl) refl o))
+    (opens next answer law knows r n L kp nk stations base a basis ok fit (b .mark) (b .places) (b .cells) (λ s x. refl) kin (o .out) posL b (λ k. refl) (λ s x. refl) (λ m. refl) refl o))
   where
     a : Now S
     a = began next answer knows r n L kp nk b
+
     go : (c : Bench S) × (ticks next answer knows r n L kp nk (2 * stations) base L b ≡ Some c) × Inv next answer law knows r n L kp nk stations base a basis ok fit (b .mark) (b .places) (b .cells) (λ s x. refl) kin (o .out) posL L 0 c
         → (c : Bench S) × (ticks next answer knows r n L kp nk (2 * stations) base L b ≡ Some c) × Closed next answer knows r n L kp nk stations base b c
     go (c, z, v) = (c, z, end (closes next answer law knows r n L kp nk stations base a basis ok fit (b .mark) (b .places) (b .cells) (λ s x. refl) kin (o .out) posL c v))
@@ -1246,13 +1316,15 @@ cycle-stands {S} next answer law knows r n L kp nk stations base basis b posL ki
 pub dates-stand : {S : Type 0} (next : S → Work → S) (answer : S → Work → ℕ) → Lawful S next answer → DatePromise S next answer
 dates-stand {S} next answer law knows r n L kp nk stations base basis b posL kin ok fit o t lt =
     go (all-ticks next answer law knows r n L kp nk stations base a basis ok fit (b .mark) (b .places) (b .cells) (λ s x. refl) kin (o .out) posL t lt b
-        (opens next answer law knows r n L kp nk stations base a basis ok fit (b .mark) (b .places) (b .cells) (λ s x. refl) kin (o .out) posL b (λ k. refl) (λ s x. refl) (λ m. refl) refl o))
+    (opens next answer law knows r n L kp nk stations base a basis ok fit (b .mark) (b .places) (b .cells) (λ s x. refl) kin (o .out) posL b (λ k. refl) (λ s x. refl) (λ m. refl) refl o))
   where
     a : Now S
     a = began next answer knows r n L kp nk b
+
     plain : (d t o : ℕ) → (ltb d t || (eqb d t && ltb o 0)) ≡ ltb d t
     plain d t o = grind (arith, tells)
+
     go : (c : Bench S) × (ticks next answer knows r n L kp nk (2 * stations) base t b ≡ Some c) × Inv next answer law knows r n L kp nk stations base a basis ok fit (b .mark) (b .places) (b .cells) (λ s x. refl) kin (o .out) posL t 0 c
         → (c : Bench S) × (ticks next answer knows r n L kp nk (2 * stations) base t b ≡ Some c)
-          × ((k : ℕ) → k < n → c .mark k ≡ cond (did next answer r a k && ltb (r k .date) t) (marked next answer knows r n L kp nk base a k (b .mark k)) (b .mark k))
+        × ((k : ℕ) → k < n → c .mark k ≡ cond (did next answer r a k && ltb (r k .date) t) (marked next answer knows r n L kp nk base a k (b .mark k)) (b .mark k))
     go (c, z, v) = (c, z, λ k l. v .mk k l ∙ ap (λ w. cond (did next answer r a k && w) (marked next answer knows r n L kp nk base a k (b .mark k)) (b .mark k)) (plain (r k .date) t (owner (r k))))

@@ -71,6 +71,7 @@ module _ (p v : ℕ → Option ℕ) (up : (x w : ℕ) → p x ≡ Some w → v x
         where
           same : meets t (p (t .var)) ≡ meets t (v (t .var))
           same = ap (meets t) (e ∙ sym (up (t .var) w e))
+
           with-bool : (meets t (p (t .var)) ≡ true) ⊎ (meets t (p (t .var)) ≡ false) → (meets t (p (t .var)) && allMeet d p) ≡ (meets t (v (t .var)) && allMeet d v)
           with-bool (inl q) = ap₂ _&&_ same (ih q)
           with-bool (inr q) = and-left _ _ q ∙ sym (and-left _ _ (sym same ∙ q))
@@ -153,6 +154,7 @@ module _ {S : Type 0} (next : S → Work → S) (answer : S → Work → ℕ) (r
           where
             one : (k : ℕ) → k < i → calls-it x k ≡ true → k ≡ m
             one k lk ck = let p = calls-parts x k ck in let q = calls-parts x m cm in g k m lk (omega arith) (p .0) (q .0) (p .1) (q .1) (p .2 ∙ sym (q .2))
+
         miss : basis x ≡ Some w → val i x ≡ Some w
         miss b = ap (λ o. orElse o (basis x)) (pick-none (calls-it x) word i none) ∙ b
           where
@@ -164,6 +166,7 @@ module _ {S : Type 0} (next : S → Work → S) (answer : S → Work → ℕ) (r
                     let f : basis (r k .out) ≡ None = ok .free k (omega arith) c in
                     let z : _≡_ {A = ℕ} 0 1 = cc in
                     omega arith
+
         go : (o : Option ℕ) → pick (calls-it x) word j ≡ o → val i x ≡ Some w
         go None q = miss (sym (ap (λ o. orElse o (basis x)) q) ∙ e)
         go (Some v) q = from (pick-inv (calls-it x) word j v q) (cc)
@@ -182,6 +185,7 @@ module _ {S : Type 0} (next : S → Work → S) (answer : S → Work → ℕ) (r
         where
           met : allMeet (r j .tests) (val i) ≡ true
           met = within-meet (r j .tests) c (val i) sub (meet-up c (at i s) (val i) (λ x w e. g .coh i (omega arith) s x w e) m)
+
           dj : did j ≡ true
           dj = g .agree j (r j .st) lj (inl refl) (val i) (val-up i (omega arith) (g .alone) j (omega arith)) ∙ met
 
@@ -190,7 +194,7 @@ module _ {S : Type 0} (next : S → Work → S) (answer : S → Work → ℕ) (r
       unfolding allMeet
       agree-now s k v up =
           same-tests (at i s) v (λ x w e. up x w (g .coh i (omega arith) s x w e)) [] (r i .tests) refl
-            (λ b t e z m. supply-held s b (t .var) (ok .tested i s l k b t e z) m)
+          (λ b t e z m. supply-held s b (t .var) (ok .tested i s l k b t e z) m)
 
       did-val : did i ≡ allMeet (r i .tests) (val i)
       did-val = agree-now (r i .st) (inl refl) (val i) (λ x w e. e)
@@ -247,16 +251,18 @@ module _ {S : Type 0} (next : S → Work → S) (answer : S → Work → ℕ) (r
               let o : r i .out ≡ x = eqb-true _ _ (and-parts (reaches (r i) s) _ (p .1) .1) in
               let ww : Some (word i) ≡ Some w = sym (row-step i s x ∙ cond-true _ _ _ q) ∙ z in
               ap (val (suc i)) (sym o) ∙ word-next (p .0) ∙ ww
+
           go : (j ≡ suc i) ⊎ ((j < suc i) ⊎ (suc i < j)) → val (suc i) x ≡ Some w
           go (inl q) = at-top (cases-bool _) (ap (λ m. at m s x) (sym q) ∙ e)
           go (inr (inl q)) = val-next x w (g .coh j (omega arith) s x w e)
           go (inr (inr q)) = absurd (omega arith)
 
       good-next : Good (suc i)
-      good-next = record
-        { alone = alone-next
-        ; coh = coh-next
-        ; agree = λ j s lj k v up. agreeing j s lj k v up (cases-order j i) }
+      good-next = record {
+        alone = alone-next;
+        coh = coh-next;
+        agree = λ j s lj k v up. agreeing j s lj k v up (cases-order j i);
+      }
         where
           agreeing : (j s : ℕ) → j < suc i → Concerns (r j) s → (v : ℕ → Option ℕ) → ((x w : ℕ) → val j x ≡ Some w → v x ≡ Some w) → (j ≡ i) ⊎ ((j < i) ⊎ (i < j)) → allMeet (r j .tests) (at j s) ≡ allMeet (r j .tests) v
           agreeing j s lj k v up (inl q) = rw q (agree-now s (rw q at k) v (λ x w e. up x w (rw q e)))
@@ -265,10 +271,11 @@ module _ {S : Type 0} (next : S → Work → S) (answer : S → Work → ℕ) (r
 
     pub good : (i : ℕ) → i ≤ n → Good i
     unfolding pick readTo
-    good zero l = record
-      { alone = λ j k lj. absurd (omega arith)
-      ; coh = λ j lj s x w e. zero-coh j lj s x w e
-      ; agree = λ j s lj. absurd (omega arith) }
+    good zero l = record {
+      alone = λ j k lj. absurd (omega arith);
+      coh = λ j lj s x w e. zero-coh j lj s x w e;
+      agree = λ j s lj. absurd (omega arith);
+    }
       where
         zero-coh : (j : ℕ) → j ≤ 0 → (s x w : ℕ) → at j s x ≡ Some w → val 0 x ≡ Some w
         zero-coh j lj s x w e = let z : j ≡ 0 = omega arith in ok .kept s x w (ap (λ m. at m s x) (sym z) ∙ e)

@@ -45,19 +45,22 @@ module _ {S : Type 0} (next : S → Work → S) (answer : S → Work → ℕ) (l
     where
       e : q * L + L ≡ suc q * L
       e = omega arith
+
       step : Stand q → Stand (suc q)
       step (c, z, w, o) = on (cycle-stands next answer law knows r n L kp nk stations (q * L) (basis (cellsOf kp nk (c .places) (c .cells))) c posL kin (ok (cellsOf kp nk (c .places) (c .cells))) fit o)
         where
           on : (d : Bench S) × (go (q * L) L c ≡ Some d) × Closed next answer knows r n L kp nk stations (q * L) c d → Stand (suc q)
-          on (d, y, x) =
-              ( d
-              , ap (λ m. go 0 m b) (sym e) ∙ ticks-add (q * L) L b c z ∙ y
-              , record
-                { places = λ s v. x .places s v ∙ ap (λ a. readTo next answer r a n .places s v) (same-start q c w)
-                ; cells = λ m. x .cells m ∙ same-cells q c w m
-                ; plant = x .plant ∙ ap (λ a. readTo next answer r a n .plant) (same-start q c w)
-                ; mark = λ k l. x .mark k l ∙ ap₂ (λ a m. cond (performed next answer r a k) (marked next answer knows r n L kp nk (q * L) a k m) m) (same-start q c w) (w .mark k l) }
-              , subst (λ m. Opened next answer knows r n L kp nk stations m d) e (x .again) )
+          on (d, y, x) = (
+            d,
+            ap (λ m. go 0 m b) (sym e) ∙ ticks-add (q * L) L b c z ∙ y,
+            record {
+              places = λ s v. x .places s v ∙ ap (λ a. readTo next answer r a n .places s v) (same-start q c w);
+              cells = λ m. x .cells m ∙ same-cells q c w m;
+              plant = x .plant ∙ ap (λ a. readTo next answer r a n .plant) (same-start q c w);
+              mark = λ k l. x .mark k l ∙ ap₂ (λ a m. cond (performed next answer r a k) (marked next answer knows r n L kp nk (q * L) a k m) m) (same-start q c w) (w .mark k l);
+            },
+            subst (λ m. Opened next answer knows r n L kp nk stations m d) e (x .again),
+          )
 
   whole : (q : ℕ) → (c : Bench S) × (go 0 (q * L) b ≡ Some c) × Whole next answer knows r n L kp nk (b .plant) q c
   whole q = let s = stand q in (s .0, s .1, s .2)
@@ -69,6 +72,7 @@ module _ {S : Type 0} (next : S → Work → S) (answer : S → Work → ℕ) (l
       Goal : Type 0
       Goal = (c : Bench S) × (go 0 (q * L + t) b ≡ Some c)
           × ((k : ℕ) → k < n → c .mark k ≡ cond (performs next answer knows r n L kp nk (b .plant) q k && ltb (r k .date) t) (markIn next answer knows r n L kp nk (b .plant) q k (markAfter next answer knows r n L kp nk (b .plant) q k)) (markAfter next answer knows r n L kp nk (b .plant) q k))
+
       from : Stand q → Goal
       from (c, z, w, o) = on (dates-stand next answer law knows r n L kp nk stations (q * L) (basis (cellsOf kp nk (c .places) (c .cells))) c posL kin (ok (cellsOf kp nk (c .places) (c .cells))) fit o t lt)
         where

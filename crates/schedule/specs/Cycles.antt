@@ -62,5 +62,5 @@ RunPromise S next answer = (knows : ℕ → ℕ → ℕ → Bool) (r : ℕ → R
     -- after whole cycles everything is the reading's
     → ((q : ℕ) → (c : Bench S) × (ticks next answer knows r n L kp nk (2 * stations) 0 (q * L) b ≡ Some c) × Whole next answer knows r n L kp nk (b .plant) q c)
     -- and after any ticks none is refused, and a mark counts the rows begun
-      × ((q t : ℕ) → t ≤ L → (c : Bench S) × (ticks next answer knows r n L kp nk (2 * stations) 0 (q * L + t) b ≡ Some c)
-        × ((k : ℕ) → k < n → c .mark k ≡ cond (performs next answer knows r n L kp nk (b .plant) q k && ltb (r k .date) t) (markIn next answer knows r n L kp nk (b .plant) q k (markAfter next answer knows r n L kp nk (b .plant) q k)) (markAfter next answer knows r n L kp nk (b .plant) q k)))
+    × ((q t : ℕ) → t ≤ L → (c : Bench S) × (ticks next answer knows r n L kp nk (2 * stations) 0 (q * L + t) b ≡ Some c)
+    × ((k : ℕ) → k < n → c .mark k ≡ cond (performs next answer knows r n L kp nk (b .plant) q k && ltb (r k .date) t) (markIn next answer knows r n L kp nk (b .plant) q k (markAfter next answer knows r n L kp nk (b .plant) q k)) (markAfter next answer knows r n L kp nk (b .plant) q k)))

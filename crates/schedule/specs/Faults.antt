@@ -76,8 +76,8 @@ module _ {S : Type 0} (next : S → Work → S) (answer : S → Work → ℕ) (k
   -- THE FIRST PART
   abbrev pub turnOf : ℕ → ℕ → Noted S → Did (Noted S)
   turnOf j T s = cond (eqb (s .bench .units j .at) T)
-    (cond (isNone (s .bench .units j .busy)) (runOf j T (program r n L kp nk j) (suc (length (program r n L kp nk j))) (s .bench .units j .pc) s) (refuse 17 j (s .bench .units j .pc) s))
-    (good s)
+      (cond (isNone (s .bench .units j .busy)) (runOf j T (program r n L kp nk j) (suc (length (program r n L kp nk j))) (s .bench .units j .pc) s) (refuse 17 j (s .bench .units j .pc) s))
+      (good s)
 
   unfoldable pub firstOf : ℕ → ℕ → Noted S → Did (Noted S)
   firstOf T zero s = good s
@@ -90,8 +90,8 @@ module _ {S : Type 0} (next : S → Work → S) (answer : S → Work → ℕ) (k
 
   abbrev pub landing : ℕ → ℕ → Job → Noted S → Did (Noted S)
   landing T j q s = cond (isLine j)
-    (cond (own next answer knows r n L kp nk j (q .row)) (good (change s (release next answer knows r n L kp nk j (s .bench)))) (hearing (s .bench .line) T j (q .row) s))
-    (good (change s (store next answer knows r n L kp nk j (q .row) (q .word) (s .bench))))
+      (cond (own next answer knows r n L kp nk j (q .row)) (good (change s (release next answer knows r n L kp nk j (s .bench)))) (hearing (s .bench .line) T j (q .row) s))
+      (good (change s (store next answer knows r n L kp nk j (q .row) (q .word) (s .bench))))
 
   abbrev pub ending : Option Job → ℕ → ℕ → Noted S → Did (Noted S)
   ending None T j s = good s

@@ -126,99 +126,108 @@ module _ {S : Type 0} (next : S → Work → S) (answer : S → Work → ℕ) (k
   guard j k b = isNone (b .units j .busy) && (not (own j k) || (present (r k) (b .places) && cond (r k .sends) (isNone (b .line)) (knows (r k .st) (r k .work) (r k .count))))
 
   abbrev pub begin : ℕ → ℕ → ℕ → Bench S → Bench S
-  begin j k T b = record
-    { places = b .places
-    ; cells = b .cells
-    ; plant = cond (own j k && not (r k .sends)) (next (b .plant) (asked (r k) (b .places))) (b .plant)
-    ; units = λ i. cond (eqb j i) (record { at = b .units j .at; pc = b .units j .pc; busy = Some (record { stop = T + r k .dur; row = k; word = cond (own j k) (gives (r k) b) 0 }) }) (b .units i)
-    ; line = cond (own j k && r k .sends) (Some (record { stop = T + r k .dur; word = gives (r k) b })) (b .line)
-    ; mark = λ i. cond (own j k && eqb k i) (record { count = suc (b .mark k .count); tick = T; first = said (ltb 0 (r k .count)) (word1 (r k) (b .places)); second = said (ltb 1 (r k .count)) (word2 (r k) (b .places)); given = Some (gives (r k) b) }) (b .mark i) }
+  begin j k T b = record {
+    places = b .places;
+    cells = b .cells;
+    plant = cond (own j k && not (r k .sends)) (next (b .plant) (asked (r k) (b .places))) (b .plant);
+    units = λ i. cond (eqb j i) (record { at = b .units j .at; pc = b .units j .pc; busy = Some (record { stop = T + r k .dur; row = k; word = cond (own j k) (gives (r k) b) 0 }) }) (b .units i);
+    line = cond (own j k && r k .sends) (Some (record { stop = T + r k .dur; word = gives (r k) b })) (b .line);
+    mark = λ i. cond (own j k && eqb k i) (record { count = suc (b .mark k .count); tick = T; first = said (ltb 0 (r k .count)) (word1 (r k) (b .places)); second = said (ltb 1 (r k .count)) (word2 (r k) (b .places)); given = Some (gives (r k) b) }) (b .mark i);
+  }
 
   abbrev pub wait : ℕ → ℕ → ℕ → ℕ → Bench S → Bench S
-  wait j T ticks a b = record
-    { places = b .places
-    ; cells = b .cells
-    ; plant = b .plant
-    ; units = λ i. cond (eqb j i) (record { at = T + ticks; pc = a; busy = b .units j .busy }) (b .units i)
-    ; line = b .line
-    ; mark = b .mark }
+  wait j T ticks a b = record {
+    places = b .places;
+    cells = b .cells;
+    plant = b .plant;
+    units = λ i. cond (eqb j i) (record { at = T + ticks; pc = a; busy = b .units j .busy }) (b .units i);
+    line = b .line;
+    mark = b .mark;
+  }
 
   -- KEEP, CLEAR and GIVE at station s
   abbrev pub taken : ℕ → ℕ → ℕ → Bench S → Bench S
-  taken s x m b = record
-    { places = b .places
-    ; cells = λ i. cond (eqb m i) (takeIn (b .places s x) (b .cells m)) (b .cells i)
-    ; plant = b .plant
-    ; units = b .units
-    ; line = b .line
-    ; mark = b .mark }
+  taken s x m b = record {
+    places = b .places;
+    cells = λ i. cond (eqb m i) (takeIn (b .places s x) (b .cells m)) (b .cells i);
+    plant = b .plant;
+    units = b .units;
+    line = b .line;
+    mark = b .mark;
+  }
 
   abbrev pub wiped : ℕ → Bench S → Bench S
-  wiped s b = record
-    { places = λ q x. cond (eqb s q) None (b .places q x)
-    ; cells = b .cells
-    ; plant = b .plant
-    ; units = b .units
-    ; line = b .line
-    ; mark = b .mark }
+  wiped s b = record {
+    places = λ q x. cond (eqb s q) None (b .places q x);
+    cells = b .cells;
+    plant = b .plant;
+    units = b .units;
+    line = b .line;
+    mark = b .mark;
+  }
 
   abbrev pub put : ℕ → ℕ → ℕ → ℕ → Bench S → Bench S
-  put s m v w b = record
-    { places = λ q x. cond (eqb s q && eqb v x) (Some (orFirst (b .cells m) w)) (b .places q x)
-    ; cells = b .cells
-    ; plant = b .plant
-    ; units = b .units
-    ; line = b .line
-    ; mark = b .mark }
+  put s m v w b = record {
+    places = λ q x. cond (eqb s q && eqb v x) (Some (orFirst (b .cells m) w)) (b .places q x);
+    cells = b .cells;
+    plant = b .plant;
+    units = b .units;
+    line = b .line;
+    mark = b .mark;
+  }
 
   -- what they come to together
   abbrev pub cellsAt : ℕ → Bench S → ℕ → Option ℕ
   cellsAt s b m = cond (eqb (kp m .st) s) (cellsOf kp nk (b .places) (b .cells) m) (b .cells m)
 
   abbrev pub prepared : ℕ → Bench S → Bench S
-  prepared s b = record
-    { places = λ q x. cond (eqb s q) (startOf kp nk (cellsAt s b) s x) (b .places q x)
-    ; cells = cellsAt s b
-    ; plant = b .plant
-    ; units = b .units
-    ; line = b .line
-    ; mark = b .mark }
+  prepared s b = record {
+    places = λ q x. cond (eqb s q) (startOf kp nk (cellsAt s b) s x) (b .places q x);
+    cells = cellsAt s b;
+    plant = b .plant;
+    units = b .units;
+    line = b .line;
+    mark = b .mark;
+  }
 
   abbrev pub engine : ℕ → ℕ → Engine (Bench S)
-  engine j T = record
-    { ask = λ t b. answered t (b .places (j / 2) (t .var))
-    ; later = wait j T
-    ; perform = λ k b. cond (guard j k b) (Some (begin j k T b)) None
-    ; take = taken (j / 2)
-    ; wipe = wiped (j / 2)
-    ; put = put (j / 2) }
+  engine j T = record {
+    ask = λ t b. answered t (b .places (j / 2) (t .var));
+    later = wait j T;
+    perform = λ k b. cond (guard j k b) (Some (begin j k T b)) None;
+    take = taken (j / 2);
+    wipe = wiped (j / 2);
+    put = put (j / 2);
+  }
 
   abbrev pub turnAt : ℕ → ℕ → Bench S → Option (Bench S)
   turnAt j T b = cond (eqb (b .units j .at) T)
-    (cond (isNone (b .units j .busy)) (exec (engine j T) (program r n L kp nk j) (suc (length (program r n L kp nk j))) (b .units j .pc) b) None)
-    (Some b)
+      (cond (isNone (b .units j .busy)) (exec (engine j T) (program r n L kp nk j) (suc (length (program r n L kp nk j))) (b .units j .pc) b) None)
+      (Some b)
 
   unfoldable pub firstTo : ℕ → ℕ → Bench S → Option (Bench S)
   firstTo T zero b = Some b
   firstTo T (suc j) b = bind (firstTo T j b) (turnAt j T)
 
   abbrev pub store : ℕ → ℕ → ℕ → Bench S → Bench S
-  store j k w b = record
-    { places = λ s x. cond (eqb (j / 2) s && eqb (r k .out) x) (Some w) (b .places s x)
-    ; cells = b .cells
-    ; plant = b .plant
-    ; units = λ i. cond (eqb j i) (record { at = b .units j .at; pc = b .units j .pc; busy = None }) (b .units i)
-    ; line = b .line
-    ; mark = b .mark }
+  store j k w b = record {
+    places = λ s x. cond (eqb (j / 2) s && eqb (r k .out) x) (Some w) (b .places s x);
+    cells = b .cells;
+    plant = b .plant;
+    units = λ i. cond (eqb j i) (record { at = b .units j .at; pc = b .units j .pc; busy = None }) (b .units i);
+    line = b .line;
+    mark = b .mark;
+  }
 
   abbrev pub release : ℕ → Bench S → Bench S
-  release j b = record
-    { places = b .places
-    ; cells = b .cells
-    ; plant = b .plant
-    ; units = λ i. cond (eqb j i) (record { at = b .units j .at; pc = b .units j .pc; busy = None }) (b .units i)
-    ; line = b .line
-    ; mark = b .mark }
+  release j b = record {
+    places = b .places;
+    cells = b .cells;
+    plant = b .plant;
+    units = λ i. cond (eqb j i) (record { at = b .units j .at; pc = b .units j .pc; busy = None }) (b .units i);
+    line = b .line;
+    mark = b .mark;
+  }
 
   abbrev pub heard : Option Message → ℕ → ℕ → ℕ → Bench S → Option (Bench S)
   heard None T j k b = None
@@ -272,10 +281,13 @@ module _ {S : Type 0} (next : S → Work → S) (answer : S → Work → ℕ) (k
   began b = record { places = startOf kp nk (cellsAfter b); plant = b .plant }
 
   abbrev pub marked : ℕ → Now S → ℕ → Mark → Mark
-  marked base a k m = record
-    { count = suc (m .count); tick = base + r k .date
-    ; first = said (ltb 0 (r k .count)) (word1 (r k) (readTo next answer r a k .places)); second = said (ltb 1 (r k .count)) (word2 (r k) (readTo next answer r a k .places))
-    ; given = Some (given next answer (r k) (readTo next answer r a k)) }
+  marked base a k m = record {
+    count = suc (m .count);
+    tick = base + r k .date;
+    first = said (ltb 0 (r k .count)) (word1 (r k) (readTo next answer r a k .places));
+    second = said (ltb 1 (r k .count)) (word2 (r k) (readTo next answer r a k .places));
+    given = Some (given next answer (r k) (readTo next answer r a k));
+  }
 
   pub record Closed (stations base : ℕ) (b c : Bench S) : Type 0 where
     pub places : (s x : ℕ) → c .places s x ≡ readTo next answer r (began b) n .places s x
@@ -296,4 +308,4 @@ DatePromise S next answer = (knows : ℕ → ℕ → ℕ → Bool) (r : ℕ → 
     → 0 < L → ((m : ℕ) → m < nk → kp m .st < stations)
     → Accepted r n L (began next answer knows r n L kp nk b .places) basis → Fit next answer knows r n L kp nk stations → Opened next answer knows r n L kp nk stations base b
     → (t : ℕ) → t ≤ L → (c : Bench S) × (ticks next answer knows r n L kp nk (2 * stations) base t b ≡ Some c)
-      × ((k : ℕ) → k < n → c .mark k ≡ cond (performed next answer r (began next answer knows r n L kp nk b) k && ltb (r k .date) t) (marked next answer knows r n L kp nk base (began next answer knows r n L kp nk b) k (b .mark k)) (b .mark k))
+    × ((k : ℕ) → k < n → c .mark k ≡ cond (performed next answer r (began next answer knows r n L kp nk b) k && ltb (r k .date) t) (marked next answer knows r n L kp nk base (began next answer knows r n L kp nk b) k (b .mark k)) (b .mark k))

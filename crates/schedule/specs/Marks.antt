@@ -27,10 +27,13 @@ module _ {S : Type 0} (next : S → Work → S) (answer : S → Work → ℕ) (k
 
   -- a mark with cycle q's tick and words of row k
   abbrev pub told : S → ℕ → ℕ → ℕ → Mark
-  told p k q c = record
-    { count = c; tick = q * L + r k .date
-    ; first = said (ltb 0 (r k .count)) (word1 (r k) (before p q k .places)); second = said (ltb 1 (r k .count)) (word2 (r k) (before p q k .places))
-    ; given = Some (given next answer (r k) (before p q k)) }
+  told p k q c = record {
+    count = c;
+    tick = q * L + r k .date;
+    first = said (ltb 0 (r k .count)) (word1 (r k) (before p q k .places));
+    second = said (ltb 1 (r k .count)) (word2 (r k) (before p q k .places));
+    given = Some (given next answer (r k) (before p q k));
+  }
 
   -- row k's mark with m ticks granted
   pub record MarkIs (p : S) (m k : ℕ) (x : Mark) : Type 0 where
@@ -46,4 +49,4 @@ MarksStand S next answer = (knows : ℕ → ℕ → ℕ → Bool) (r : ℕ → R
     → ((c : ℕ → Option ℕ) → Accepted r n L (startOf kp nk c) (basis c)) → Fit next answer knows r n L kp nk stations → Made next answer knows r n L kp nk stations b
     -- after any number of ticks none is refused, and every mark is as said
     → (m : ℕ) → (c : Bench S) × (ticks next answer knows r n L kp nk (2 * stations) 0 m b ≡ Some c)
-      × ((k : ℕ) → k < n → MarkIs next answer knows r n L kp nk (b .plant) m k (c .mark k))
+    × ((k : ℕ) → k < n → MarkIs next answer knows r n L kp nk (b .plant) m k (c .mark k))

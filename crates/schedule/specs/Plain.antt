@@ -16,10 +16,14 @@ use Rattle.schedule.specs.Sends.{Occupies}
 
 -- the bench and the world at making
 abbrev pub newBench : {S : Type 0} → S → Bench S
-newBench p = record
-  { places = λ s x. None; plant = p; cells = λ m. None
-  ; units = λ j. record { at = 0; pc = 0; busy = None }
-  ; line = None; mark = λ k. blankMark }
+newBench p = record {
+  places = λ s x. None;
+  plant = p;
+  cells = λ m. None;
+  units = λ j. record { at = 0; pc = 0; busy = None };
+  line = None;
+  mark = λ k. blankMark;
+}
 
 abbrev pub newWorld : {S : Type 0} → S → World S
 newWorld p = record { bench = newBench p; granted = 0; stopped = false }

@@ -22,4 +22,4 @@ OrderFree S next answer = (w : ℕ → Work) (D D′ E : ℕ → Bool) (s : S) (
     → ((k : ℕ) → k < n → w k .station ≡ w j .station → j < k → D k ≡ false)
     → D j ≡ false → D′ j ≡ true → ((k : ℕ) → (k ≡ j → ⊥) → D′ k ≡ D k)
     → (answer (after next w D s n) (w j) ≡ answer (after next w E s j) (w j))
-      × (next (after next w D s n) (w j) ≡ after next w D′ s n)
+    × (next (after next w D s n) (w j) ≡ after next w D′ s n)

@@ -67,9 +67,10 @@ module _ {S : Type 0} (next : S → Work → S) (answer : S → Work → ℕ) wh
   given r n = cond (r .sends) (word1 r (n .places)) (answer (n .plant) (asked r (n .places)))
 
   abbrev pub doRow : Row → Now S → Now S
-  doRow r n = record
-    { places = λ s x. cond (allMeet (r .tests) (n .places (r .st)) && (reaches r s && eqb (r .out) x)) (Some (given r n)) (n .places s x)
-    ; plant = cond (allMeet (r .tests) (n .places (r .st)) && not (r .sends)) (next (n .plant) (asked r (n .places))) (n .plant) }
+  doRow r n = record {
+    places = λ s x. cond (allMeet (r .tests) (n .places (r .st)) && (reaches r s && eqb (r .out) x)) (Some (given r n)) (n .places s x);
+    plant = cond (allMeet (r .tests) (n .places (r .st)) && not (r .sends)) (next (n .plant) (asked r (n .places))) (n .plant);
+  }
 
   unfoldable pub readTo : (ℕ → Row) → Now S → ℕ → Now S
   readTo r a zero = a
@@ -122,5 +123,5 @@ performed next answer r a i = allMeet (r i .tests) (readTo next answer r a i .pl
 abbrev pub OneValuation : (S : Type 0) → (S → Work → S) → (S → Work → ℕ) → (ℕ → Row) → Now S → Type 0
 OneValuation S next answer r a = (n L : ℕ) (basis : ℕ → Option ℕ) → Accepted r n L (a .places) basis
     → (v : ℕ → Option ℕ)
-      × ((s x w : ℕ) → readTo next answer r a n .places s x ≡ Some w → v x ≡ Some w)
-      × ((i : ℕ) → i < n → performed next answer r a i ≡ allMeet (r i .tests) v)
+    × ((s x w : ℕ) → readTo next answer r a n .places s x ≡ Some w → v x ≡ Some w)
+    × ((i : ℕ) → i < n → performed next answer r a i ≡ allMeet (r i .tests) v)

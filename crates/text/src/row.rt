@@ -170,15 +170,24 @@ pub impl fmt::Display for RowLine as RowLineDisplay {
     fn fmt<W: fmt::Write>(&self, f: &mut fmt::Formatter<W>) -> fmt::Result {
         match self.row {
             Row::Keep(keep) => {
-                let line = KeepLine { number: self.number, keep };
+                let line = KeepLine {
+                    number: self.number,
+                    keep,
+                };
                 write!(f, "{line}")
             }
             Row::Call(call) => {
-                let line = CallLine { number: self.number, call };
+                let line = CallLine {
+                    number: self.number,
+                    call,
+                };
                 write!(f, "{line}")
             }
             Row::Send(send) => {
-                let line = SendLine { number: self.number, send };
+                let line = SendLine {
+                    number: self.number,
+                    send,
+                };
                 write!(f, "{line}")
             }
         }
@@ -196,11 +205,17 @@ pub impl fmt::Display for KeepLine as KeepLineDisplay {
     ghost shown = { λ x. Some (rowText (x .number) (keepRow (x .keep))) };
 
     fn fmt<W: fmt::Write>(&self, f: &mut fmt::Formatter<W>) -> fmt::Result {
-        let begin = Begin { number: self.number, station: self.keep.station };
+        let begin = Begin {
+            number: self.number,
+            station: self.keep.station,
+        };
         let taken = Three(u64::from(self.keep.taken));
         let given = Three(u64::from(self.keep.given));
         let first = self.keep.first;
-        write!(f, "{begin}keep  variable {taken} as variable {given}, at first {first}")
+        write!(
+            f,
+            "{begin}keep  variable {taken} as variable {given}, at first {first}"
+        )
     }
 }
 
@@ -215,13 +230,22 @@ pub impl fmt::Display for CallLine as CallLineDisplay {
     ghost shown = { λ x. Some (rowText (x .number) (callRow (x .call))) };
 
     fn fmt<W: fmt::Write>(&self, f: &mut fmt::Formatter<W>) -> fmt::Result {
-        let begin = Begin { number: self.number, station: self.call.station };
+        let begin = Begin {
+            number: self.number,
+            station: self.call.station,
+        };
         let work = Three(u64::from(self.call.work));
         let inputs = InputsText(self.call.inputs);
         let output = Three(u64::from(self.call.output));
-        let ticks = Ticks { date: self.call.date, duration: self.call.duration };
+        let ticks = Ticks {
+            date: self.call.date,
+            duration: self.call.duration,
+        };
         let condition = ConditionText(self.call.condition);
-        write!(f, "{begin}call  work {work} {inputs} into {output}{ticks}{condition}")
+        write!(
+            f,
+            "{begin}call  work {work} {inputs} into {output}{ticks}{condition}"
+        )
     }
 }
 
@@ -236,9 +260,15 @@ pub impl fmt::Display for SendLine as SendLineDisplay {
     ghost shown = { λ x. Some (rowText (x .number) (sendRow (x .send))) };
 
     fn fmt<W: fmt::Write>(&self, f: &mut fmt::Formatter<W>) -> fmt::Result {
-        let begin = Begin { number: self.number, station: self.send.station };
+        let begin = Begin {
+            number: self.number,
+            station: self.send.station,
+        };
         let variable = Three(u64::from(self.send.variable));
-        let ticks = Ticks { date: self.send.date, duration: self.send.duration };
+        let ticks = Ticks {
+            date: self.send.date,
+            duration: self.send.duration,
+        };
         let listeners = Listeners(self.send.listeners);
         let condition = ConditionText(self.send.condition);
         write!(
@@ -260,7 +290,10 @@ pub impl fmt::Display for HeadLine as HeadLineDisplay {
         let variables = self.0.variables;
         let cycle = self.0.cycle;
         let rows = self.0.rows;
-        write!(f, "{stations} stations, {variables} variables, a cycle of {cycle} ticks, {rows} rows")
+        write!(
+            f,
+            "{stations} stations, {variables} variables, a cycle of {cycle} ticks, {rows} rows"
+        )
     }
 }
 
