@@ -59,7 +59,8 @@ impl<'a> Reader<'a> {
     pub fn pos(&self) -> usize
         ensures { λ r. ⌜ r ≡ now (self .entry) .pos ⌝ }
     {
-        self.pos
+        let next = self.pos;
+        next
     }
 
     // The bytes from the offset `from` up to the next byte; none where that lies behind.

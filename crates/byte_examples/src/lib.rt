@@ -1,0 +1,3 @@
+// Examples of refusals, numbers and sheets in bytes.
+#[cfg(test)]
+mod tests;
