@@ -3,3 +3,4 @@ pub mod Fitting
 pub mod Puttings
 pub mod Lengths
 pub mod Saves
+pub mod StepReaders
