@@ -4,3 +4,5 @@ pub mod Puttings
 pub mod Lengths
 pub mod Saves
 pub mod StepReaders
+pub mod Exact
+pub mod Returned
