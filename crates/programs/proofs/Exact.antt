@@ -64,9 +64,11 @@ module _ (num : ℕ → Result ℕ (Fault Offset)) (aft : ℕ → ℕ) (room : �
       let r = program-reads at pos (p .0) (p .1) hp in
       then-by (somePrograms num aft room k (at + length (p .0)) (p .1)) _ (ps, end) e1 (λ t ht e2.
       let ih = programs-read k (at + length (p .0)) (p .1) (t .0) (t .1) (r .1) ht in
-      at-same (Programs (suc k) at pos) e2
-      (reads-more num aft pos (programNumbers (p .0)) (p .1) (joined programNumbers (t .0)) (t .1) (r .0) (ih .0),
-      ap suc (ih .1), omega (arith, ih .2, length-append (p .0) (stepsOf (t .0))))))
+      at-same (Programs (suc k) at pos) e2 (
+        reads-more num aft pos (programNumbers (p .0)) (p .1) (joined programNumbers (t .0)) (t .1) (r .0) (ih .0),
+        ap suc (ih .1),
+        omega (arith, ih .2, length-append (p .0) (stepsOf (t .0))),
+      )))
 
   programs-back : (at pos : ℕ) (ps : List (List Step)) (end : ℕ) → Rd pos (joined programNumbers ps) end → at + length (stepsOf ps) ≤ room
       → somePrograms num aft room (length ps) at pos ≡ Ok (ps, end)

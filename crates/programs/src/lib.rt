@@ -4,6 +4,8 @@ mod file;
 mod laws;
 mod load;
 mod save;
+#[cfg(test)]
+mod tests;
 
 pub use decode::read_step;
 pub use file::read;
