@@ -1,10 +1,10 @@
 use mathlib.Core.List.{List, [], _∷_, _++_}
 use Prim.Native.Nat.{ℕ}
-use lib.ListN.{length, getD}
+use lib.ListN.{getD}
 use Rattle.wire.specs.Bytes.{spelled}
-use Rattle.sheet.specs.declared.row.Inputs.{Inputs}
 use Rattle.sheet.specs.declared.row.Relation.the-variants.{Equal}
-use Rattle.sheet.specs.Rows.{relationCode, inputsOf}
+use Rattle.sheet.specs.Rows.{relationCode}
+use Rattle.sheet.specs.Parts.{inputsNumbers}
 use Rattle.netcode.specs.declared.step.Step.{Step}
 use Rattle.netcode.specs.declared.step.Step.the-variants.{Test, Future, Halt, Call, Send, Receive, Keep, Clear, Give}
 
@@ -20,16 +20,12 @@ codeOf (Keep variable cell) = 6
 codeOf Clear = 7
 codeOf (Give cell variable word) = 8
 
--- The inputs of a call are written as their count and then each.
-abbrev pub inputNumbers : Inputs → List ℕ
-inputNumbers inputs = length (inputsOf inputs) ∷ inputsOf inputs
-
 -- The fields of a step, in the order in which they are written.
 abbrev pub fieldsOf : Step → List ℕ
 fieldsOf (Test variable relation word address) = variable ∷ relationCode relation ∷ word ∷ address ∷ []
 fieldsOf (Future ticks address) = ticks ∷ address ∷ []
 fieldsOf Halt = []
-fieldsOf (Call row work inputs output duration) = row ∷ work ∷ (inputNumbers inputs ++ output ∷ duration ∷ [])
+fieldsOf (Call row work inputs output duration) = row ∷ work ∷ (inputsNumbers inputs ++ output ∷ duration ∷ [])
 fieldsOf (Send row variable duration) = row ∷ variable ∷ duration ∷ []
 fieldsOf (Receive variable duration) = variable ∷ duration ∷ []
 fieldsOf (Keep variable cell) = variable ∷ cell ∷ []

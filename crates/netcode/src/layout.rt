@@ -23,7 +23,7 @@ pub fn work_program(station: u32) -> usize
 pub fn line_program(station: u32) -> usize
     ensures { λ r. ⌜ r ≡ lineProgram station ⌝ }
 {
-    PER_STATION * station as usize + 1
+    work_program(station) + 1
 }
 
 // The station of a program.

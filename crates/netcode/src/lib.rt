@@ -2,6 +2,8 @@ mod laws;
 mod layout;
 mod rules;
 mod step;
+#[cfg(test)]
+mod tests;
 
 pub use laws::programs_numbered;
 pub use laws::rules_stand;

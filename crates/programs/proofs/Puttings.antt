@@ -10,8 +10,8 @@ use lib.ListN.{length, getD, take, drop, length-append, length-take, length-drop
 use Rattle.std.specs.shelf.Lists.{joined}
 use Rattle.std.proofs.shelf.Lists.{at-drop-more, at-drop-all, length-take-le, take-at, drop-at, drop-drop}
 use Rattle.std.proofs.shelf.Tests.{le-ltb}
-use Rattle.wire.specs.Bytes.{bytesOf, spelled, written}
-use Rattle.programs.specs.Stores.{putting}
+use Rattle.wire.specs.Bytes.{bytesOf, spelled}
+use Rattle.programs.specs.Stores.{written, putting}
 
 pub put-more : (out : List ℕ) (at : ℕ) (ns : List ℕ) (i : ℕ) (out′ : List ℕ) (at′ : ℕ) → i < length ns
     → out′ ≡ written out at (getD ns i 0) → at′ ≡ at + length (bytesOf (getD ns i 0))

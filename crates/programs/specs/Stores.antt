@@ -6,7 +6,7 @@ use Rattle.std.specs.declared.result.Result.the-variants.{Ok, Err}
 use Rattle.fault.specs.declared.refusal.Fault.{Fault}
 use Rattle.fault.specs.declared.place.Offset.{Offset}
 use Rattle.fault.specs.declared.place.BytesPlace.{BytesPlace}
-use Rattle.wire.specs.Bytes.{bytesOf, written}
+use Rattle.wire.specs.Bytes.{bytesOf, placed}
 use Rattle.sheet.specs.Parts.{Read}
 use Rattle.netcode.specs.declared.step.Step.{Step}
 use Rattle.netcode.specs.declared.step.Layout.{Layout}
@@ -53,6 +53,10 @@ abbrev pub storingFile : List Step → Result File (Fault BytesPlace) → Result
 storingFile list (Ok file) =
     Ok (record { stations = file .0; lengths = stored (replicate 16 0) 0 (map length (file .1)) }, stored list 0 (stepsOf (file .1)))
 storingFile list (Err f) = Err f
+
+-- A list of bytes after a number was written at `at`, where there was room for it.
+abbrev pub written : List ℕ → ℕ → ℕ → List ℕ
+written out at n = placed out at (bytesOf n)
 
 -- A list of bytes after the numbers were written from `at` on, each where there was room for it, and where
 -- they end.

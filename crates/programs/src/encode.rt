@@ -3,10 +3,10 @@ ghost use Prim.Native.Nat.{_+_, _*_, _^_, _<_, _≤_};
 ghost use lib.ListN.{length, take};
 ghost use Rattle.std.specs.shelf.Lists.{joined};
 ghost use Rattle.programs.specs.Files.{programNumbers};
-ghost use Rattle.wire.specs.Bytes.{bytesOf, written};
+ghost use Rattle.wire.specs.Bytes.{bytesOf};
 ghost use Rattle.netcode.specs.Steps.{numbersOf};
 ghost use Rattle.netcode.specs.declared.step.Step.the-variants.{Call};
-ghost use Rattle.programs.specs.Stores.{putting};
+ghost use Rattle.programs.specs.Stores.{written, putting};
 use netcode::Step;
 use sheet::Inputs;
 use sheet::relation_code;
@@ -71,7 +71,7 @@ fn step_numbers(step: Step) -> ([u32; 8], usize)
 }
 
 // Writes a number at `at` where there is room for it, and says where it ends.
-pub fn put_one(out: &mut [u8], at: usize, n: u32) -> usize
+pub(crate) fn put_one(out: &mut [u8], at: usize, n: u32) -> usize
     requires { ⌜ at < 2 ^ 63 ⌝ }
     ensures end { λ r. ⌜ r ≡ at + length (bytesOf n) ⌝ }
     ensures bytes { λ _. ⌜ now (out .exit) ≡ written (now (out .entry)) at n ⌝ }
@@ -120,7 +120,7 @@ fn put_steps(out: &mut [u8], at: usize, steps: &[Step]) -> usize
 }
 
 // Writes a program from `at` on, its length and its steps, and says where it ends.
-pub fn put_program(out: &mut [u8], at: usize, steps: &[Step]) -> usize
+pub(crate) fn put_program(out: &mut [u8], at: usize, steps: &[Step]) -> usize
     requires { ⌜ length (now steps) < 2 ^ 32 ⌝ ∗ ⌜ at < 2 ^ 60 ⌝ }
     ensures put { λ r. ⌜ putting (now (out .entry)) at (programNumbers (now (steps .entry))) ≡ (now (out .exit), r) ⌝ }
     ensures near { λ r. ⌜ r ≤ at + 2 ^ 40 ⌝ }

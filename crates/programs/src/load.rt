@@ -1,8 +1,6 @@
 ghost use mathlib.Core.Path.{_≡_};
-ghost use mathlib.Core.Bool.{cond};
-ghost use Prim.Native.Nat.{_+_, _*_, _^_, _<_, _≤_};
-ghost use lib.ListN.{length, set, replicate};
-ghost use Rattle.std.specs.Vec.{made};
+ghost use Prim.Native.Nat.{_+_, _^_, _<_};
+ghost use lib.ListN.{set, replicate};
 ghost use Rattle.wire.specs.Numbers.{numberAt, afterNumber};
 ghost use Rattle.netcode.specs.Layouts.{programCount};
 ghost use Rattle.programs.specs.Steps.{stepsFrom};
@@ -71,7 +69,7 @@ fn read_program(
 
 // Reads the programs of the stations, and says their lengths; stores the steps as far as the list has
 // their places.
-pub fn read_programs(
+pub(crate) fn read_programs(
     reader: &mut Reader,
     stations: u32,
     room: usize,
