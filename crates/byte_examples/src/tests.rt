@@ -77,20 +77,56 @@ fn sheets_are_read_and_written() -> Result<(), Fail> {
     check(out[0] == 1 && out[9] == 7 && out[10] == 0)?;
     let mut short = [0u8; 9];
     let refusal = write(&head, &rows[0..1], &mut short);
-    check(matches!(refusal, Err(Fault { refusal: Refusal::TooShort, place: BytesPlace::Needed(10) })))
+    check(matches!(
+        refusal,
+        Err(Fault {
+            refusal: Refusal::TooShort,
+            place: BytesPlace::Needed(10)
+        })
+    ))
 }
 
 #[test]
 fn bad_bytes_are_refused() -> Result<(), Fail> {
     let mut rows = [blank(); 1];
     let early = read(&[1, 1, 2, 5], &mut rows);
-    check(matches!(early, Err(Fault { refusal: Refusal::EndsEarly, place: BytesPlace::Offset(4) })))?;
+    check(matches!(
+        early,
+        Err(Fault {
+            refusal: Refusal::EndsEarly,
+            place: BytesPlace::Offset(4)
+        })
+    ))?;
     let edition = read(&[2], &mut rows);
-    check(matches!(edition, Err(Fault { refusal: Refusal::Strange, place: BytesPlace::Offset(0) })))?;
+    check(matches!(
+        edition,
+        Err(Fault {
+            refusal: Refusal::Strange,
+            place: BytesPlace::Offset(0)
+        })
+    ))?;
     let room = read(&[1, 9, 2, 5, 2], &mut rows);
-    check(matches!(room, Err(Fault { refusal: Refusal::TooShort, place: BytesPlace::Needed(2) })))?;
+    check(matches!(
+        room,
+        Err(Fault {
+            refusal: Refusal::TooShort,
+            place: BytesPlace::Needed(2)
+        })
+    ))?;
     let head = read(&[1, 9, 2, 5, 1], &mut rows);
-    check(matches!(head, Err(Fault { refusal: Refusal::HeadOutside, place: BytesPlace::Head })))?;
+    check(matches!(
+        head,
+        Err(Fault {
+            refusal: Refusal::HeadOutside,
+            place: BytesPlace::Head
+        })
+    ))?;
     let trailing = read(&[1, 1, 2, 5, 0, 9], &mut rows);
-    check(matches!(trailing, Err(Fault { refusal: Refusal::Trailing, place: BytesPlace::Offset(5) })))
+    check(matches!(
+        trailing,
+        Err(Fault {
+            refusal: Refusal::Trailing,
+            place: BytesPlace::Offset(5)
+        })
+    ))
 }
