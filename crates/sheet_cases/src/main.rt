@@ -1,5 +1,6 @@
 // Judges the sheets in the file `cases`, one after the other: each is its length, two bytes, and its bytes.
 // A line for each: `accepted` or its refusal; `differs` where it is read and not written back unchanged.
+use cases::next_part;
 use fault::Fault;
 use fault::Place;
 use fault::PlaceFromBytes;
@@ -57,15 +58,10 @@ fn judge_case(rt: &LibcRuntime, bytes: &[u8]) -> Result<(), AnyError> {
 fn run(rt: &LibcRuntime) -> Result<(), AnyError> {
     let cases = fs::read(rt, "cases")?;
     let mut rest = cases.as_slice();
-    for _ in 0..100000u32 {
-        let [low, high, after @ ..] = rest else {
+    for _ in 0..cases.len() {
+        let Some((case, others)) = next_part(rest) else {
             return Ok(());
         };
-        let size = *low as usize + 256 * (*high as usize);
-        if after.len() < size {
-            return Err("a case that is cut short".into());
-        }
-        let (case, others) = after.split_at(size);
         judge_case(rt, case)?;
         rest = others;
     }
