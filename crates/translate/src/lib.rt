@@ -1,0 +1,1 @@
+// The translation of an accepted sheet into programs.
