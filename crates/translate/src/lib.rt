@@ -1,1 +1,3 @@
-// The translation of an accepted sheet into programs.
+mod worked;
+
+pub use worked::worked_programs;
