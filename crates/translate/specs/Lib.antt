@@ -1,3 +1,4 @@
+pub mod Ordered
 pub mod Schedules
 pub mod Translation
 pub mod Worked
