@@ -227,3 +227,92 @@ module _ (cycle : ℕ) (rows : List Row) (p : ℕ) (ord : Ordered cycle rows) wh
           ∙ ap (λ (z : ℕ). rowsCode cycle rows p o d 0 (length rows) z) (address-same o d)
           ∙ block-code o d (addr h o d) l ∙ sym (ap (map C) (cond-true _ _ _ q))
       go (inr q) = cond-false _ _ _ (is-date d ∙ q) ∙ sym (ap (map C) (cond-false _ _ _ q))
+
+  -- KEEPs and GIVEs.
+  keep-same : (m : ℕ) (row : Row) → isKeep row ≡ true → keepStep p m row ≡ map C (cond (eqb (asKeep row .st) (p / 2)) (PlannedStep.keep (asKeep row .from) m ∷ []) [])
+  keep-same m (keepRow k) e = go (eqb (k .station) (p / 2))
+    where
+      go : (b : Bool) → cond b (Keep (k .taken) m ∷ []) [] ≡ map C (cond b (PlannedStep.keep (k .taken) m ∷ []) [])
+      go true = refl
+      go false = refl
+  keep-same m (callRow c) e = absurd (false≢true e)
+  keep-same m (sendRow s) e = absurd (false≢true e)
+
+  give-same : (m : ℕ) (row : Row) → isKeep row ≡ true → giveStep p m row ≡ map C (cond (eqb (asKeep row .st) (p / 2)) (PlannedStep.give m (asKeep row .into) (asKeep row .first) ∷ []) [])
+  give-same m (keepRow k) e = go (eqb (k .station) (p / 2))
+    where
+      go : (b : Bool) → cond b (Give m (k .given) (k .first) ∷ []) [] ≡ map C (cond b (PlannedStep.give m (k .given) (k .first) ∷ []) [])
+      go true = refl
+      go false = refl
+  give-same m (callRow c) e = absurd (false≢true e)
+  give-same m (sendRow s) e = absurd (false≢true e)
+
+  no-keep : (m : ℕ) (row : Row) → isKeep row ≡ false → (keepStep p m row ≡ []) × (giveStep p m row ≡ [])
+  no-keep m (keepRow k) e = absurd (true≢false e)
+  no-keep m (callRow c) e = (refl, refl)
+  no-keep m (sendRow s) e = (refl, refl)
+
+  keeps-same : (m : ℕ) → m ≤ nk → keepsTo cycle rows p m ≡ map C (keepCode (keepsOf rows) (p / 2) m)
+  unfolding keepsTo keepCode
+  keeps-same zero l = refl
+  keeps-same (suc m) l = ap₂ (λ (x y : List Step). x ++ y) (keeps-same m (omega arith)) (keep-same m (rowAt rows m) (keep-front rows m l)) ∙ sym (map-append C (keepCode (keepsOf rows) (p / 2) m) _)
+
+  gives-same : (m : ℕ) → m ≤ nk → givesTo cycle rows p m ≡ map C (giveCode (keepsOf rows) (p / 2) m)
+  unfolding givesTo giveCode
+  gives-same zero l = refl
+  gives-same (suc m) l = ap₂ (λ (x y : List Step). x ++ y) (gives-same m (omega arith)) (give-same m (rowAt rows m) (keep-front rows m l)) ∙ sym (map-append C (giveCode (keepsOf rows) (p / 2) m) _)
+
+  keeps-rest : (k : ℕ) → nk + k ≤ length rows → keepsTo cycle rows p (nk + k) ≡ keepsTo cycle rows p nk
+  unfolding keepsTo
+  keeps-rest zero l = ap (keepsTo cycle rows p) (add-zero nk)
+  keeps-rest (suc k) l =
+      ap (keepsTo cycle rows p) (add-suc nk k)
+      ∙ ap (λ (x : List Step). keepsTo cycle rows p (nk + k) ++ x) (no-keep (nk + k) (rowAt rows (nk + k)) (ord .after (nk + k) (omega arith) (omega arith)) .0)
+      ∙ append-nil _ ∙ keeps-rest k (omega arith)
+
+  gives-rest : (k : ℕ) → nk + k ≤ length rows → givesTo cycle rows p (nk + k) ≡ givesTo cycle rows p nk
+  unfolding givesTo
+  gives-rest zero l = ap (givesTo cycle rows p) (add-zero nk)
+  gives-rest (suc k) l =
+      ap (givesTo cycle rows p) (add-suc nk k)
+      ∙ ap (λ (x : List Step). givesTo cycle rows p (nk + k) ++ x) (no-keep (nk + k) (rowAt rows (nk + k)) (ord .after (nk + k) (omega arith) (omega arith)) .1)
+      ∙ append-nil _ ∙ gives-rest k (omega arith)
+
+  preparation-same : preparation cycle rows p ≡ map C (headOf (keepsOf rows) nk p)
+  preparation-same = ap (λ (b : Bool). cond b [] (keepsTo cycle rows p (length rows) ++ (Clear ∷ givesTo cycle rows p (length rows)))) (line-same p) ∙ go (plannedLine p)
+    where
+      K : List PlannedStep
+      K = keepCode (keepsOf rows) (p / 2) nk
+      G : List PlannedStep
+      G = giveCode (keepsOf rows) (p / 2) nk
+      ks : keepsTo cycle rows p (length rows) ≡ map C K
+      ks = ap (keepsTo cycle rows p) (sym total) ∙ keeps-rest n (omega (arith, total)) ∙ keeps-same nk (omega arith)
+      gs : givesTo cycle rows p (length rows) ≡ map C G
+      gs = ap (givesTo cycle rows p) (sym total) ∙ gives-rest n (omega (arith, total)) ∙ gives-same nk (omega arith)
+      go : (b : Bool) → cond b [] (keepsTo cycle rows p (length rows) ++ (Clear ∷ givesTo cycle rows p (length rows))) ≡ map C (cond b [] (K ++ (PlannedStep.clear ∷ G)))
+      go true = refl
+      go false = ap₂ (λ (x y : List Step). x ++ (Clear ∷ y)) ks gs ∙ sym (map-append C K (PlannedStep.clear ∷ G))
+
+  abbrev W : List PlannedStep
+  W = headOf (keepsOf rows) nk p
+
+  opening-length : openingLength cycle rows p ≡ openLen h W
+  opening-length = ap₂ (λ (x : ℕ) (b : Bool). x + cond b 0 2) (ap length preparation-same ∙ length-map W C) (is-date 0)
+
+  opening-same : opening cycle rows p ≡ map C (plannedOpening h W)
+  opening-same =
+      ap₂ (λ (x : List Step) (b : Bool). x ++ cond b [] (waitFor cycle rows p (openingLength cycle rows p) 0 0 ∷ Halt ∷ [])) preparation-same (is-date 0)
+      ∙ ap (λ (y : List Step). map C W ++ y) (go (plannedDate h 0)) ∙ sym (map-append C W _)
+    where
+      F : PlannedStep
+      F = PlannedStep.future (wake h 0) (target h (openLen h W) (wake h 0))
+      w : waitFor cycle rows p (openingLength cycle rows p) 0 0 ≡ C F
+      w = let z : wake h 0 - 0 ≡ wake h 0 = omega arith in
+          ap (λ (o : ℕ). waitFor cycle rows p o 0 0) opening-length ∙ wait-same (openLen h W) 0 0 (omega arith) ∙ ap (λ (t : ℕ). Future t (target h (openLen h W) (wake h 0))) z
+      go : (b : Bool) → cond b [] (waitFor cycle rows p (openingLength cycle rows p) 0 0 ∷ Halt ∷ []) ≡ map C (cond b [] (F ∷ PlannedStep.halt ∷ []))
+      go true = refl
+      go false = ap (λ (s : Step). s ∷ Halt ∷ []) w
+
+  -- Program p of the sheet is program p of its schedule.
+  pub program-maps : programCode cycle rows p ≡ map (concrete rows p) (program (rowsOf rows) (rowTotal rows) cycle (keepsOf rows) (keepCount rows) p)
+  program-maps = ap (λ (o : List Step). codeTo cycle rows p o cycle) opening-same ∙ code-same (plannedOpening h W) cycle (omega arith)
