@@ -26,10 +26,10 @@ use Rattle.schedule.specs.Rows.{Test as Asked, Row as Planned, ends, reaches, M
 use Rattle.schedule.specs.Machine.{Keep as Kept}
 use Rattle.schedule.specs.Lawful.{Limits}
 use Rattle.schedule.specs.Promise.{Available as Supplied, Judged}
-use Rattle.translate.specs.Translation.{endOf}
+use Rattle.translate.specs.Translation.{testsIn, endOf}
 use Rattle.translate.specs.Schedules.{keepCount, isEqual, inputCount, firstInput, secondInput, asTest, asTests, asRow, asKeep, rowsOf, rowTotal, keepsOf}
 use Rattle.translate.specs.Ordered.{Ordered}
-use Rattle.translate.proofs.Maps.{keep-few, keep-front}
+use Rattle.translate.proofs.Maps.{keep-few, keep-front, tests-same}
 
 -- Keep rows stand above all others.
 keep-is : (row : Row) → IsKeep row → isKeep row ≡ true
@@ -209,3 +209,163 @@ row-provides : (row : Row) (s x d : ℕ) (ts : List Test) → isKeep row ≡ fal
 row-provides (keepRow k) s x d ts e v = absurd (true≢false e)
 row-provides (callRow c) s x d ts e (a, (b, (f, g))) = (eq-eqb _ _ a, b, f, among (testsOf (c .condition)) ts g)
 row-provides (sendRow c) s x d ts e (a, (b, (f, g))) = (eq-eqb _ _ a, b, f, among (testsOf (c .condition)) ts g)
+
+-- Needs of one row at a station after the tests before one of its own.
+reads-tests : (rows : List Row) (r : ℕ) (row : Row) (s : ℕ) → isKeep row ≡ false → ReadsAvailable rows r row → Concerns (asRow row) s
+    → (ts : List Test) → asTests ts ≡ asRow row .tests → TestsAvailable rows r s (asRow row .date) (testsIn row)
+reads-tests rows r (keepRow k) s e v c ts z = absurd (true≢false e)
+reads-tests rows r (callRow q) s e v (inl c) ts z = subst (λ (n : ℕ). TestsAvailable rows r n (q .date) (testsOf (q .condition))) c (v .0)
+reads-tests rows r (callRow q) s e v (inr c) ts z = absurd (false≢true (c .0))
+reads-tests rows r (sendRow q) s e v (inl c) ts z = subst (λ (n : ℕ). TestsAvailable rows r n (q .date) (testsOf (q .condition))) c (v .0)
+reads-tests rows r (sendRow q) s e v (inr c) ts z = v .1 .1 s (eqb-true _ _ (c .1))
+
+reads-first : (rows : List Row) (r : ℕ) (row : Row) → isKeep row ≡ false → ReadsAvailable rows r row → 0 < asRow row .count
+    → Available rows r (asRow row .st) (asRow row .one) (asRow row .date) (testsIn row)
+reads-first rows r (keepRow k) e v l = absurd (true≢false e)
+reads-first rows r (callRow c) e v l = go (c .inputs) (v .1) l
+  where
+    go : (i : Inputs) → All (λ x. Available rows r (c .station) x (c .date) (testsOf (c .condition))) (inputsOf i) → 0 < inputCount i → Available rows r (c .station) (firstInput i) (c .date) (testsOf (c .condition))
+    go Nothing a l = absurd (omega arith)
+    go (Single x) a l = a .0
+    go (Pair x y) a l = a .0
+reads-first rows r (sendRow s) e v l = v .1 .0
+
+reads-second : (rows : List Row) (r : ℕ) (row : Row) → isKeep row ≡ false → ReadsAvailable rows r row → 1 < asRow row .count
+    → Available rows r (asRow row .st) (asRow row .two) (asRow row .date) (testsIn row)
+reads-second rows r (keepRow k) e v l = absurd (true≢false e)
+reads-second rows r (callRow c) e v l = go (c .inputs) (v .1) l
+  where
+    go : (i : Inputs) → All (λ x. Available rows r (c .station) x (c .date) (testsOf (c .condition))) (inputsOf i) → 1 < inputCount i → Available rows r (c .station) (secondInput i) (c .date) (testsOf (c .condition))
+    go Nothing a l = absurd (omega arith)
+    go (Single x) a l = absurd (omega arith)
+    go (Pair x y) a l = a .1 .0
+reads-second rows r (sendRow s) e v l = absurd (omega arith)
+
+module _ (h : Head) (rows : List Row) (rules : Rules h rows) where
+  abbrev nk : ℕ
+  nk = keepCount rows
+
+  abbrev n : ℕ
+  n = rowTotal rows
+
+  abbrev at : ℕ → Row
+  at i = rowAt rows (nk + i)
+
+  below : (i : ℕ) → i < n → nk + i < length rows
+  below i l = let a = keep-few rows in omega arith
+
+  after : (i : ℕ) → nk ≤ i → i < length rows → isKeep (rowAt rows i) ≡ false
+  after i a l = go (cases-bool (isKeep (rowAt rows i)))
+    where
+      go : (isKeep (rowAt rows i) ≡ true) ⊎ (isKeep (rowAt rows i) ≡ false) → isKeep (rowAt rows i) ≡ false
+      go (inr e) = e
+      go (inl e) =
+          let f = placed-keep rows i (rowAt rows i) (rules i l .placed) e .1 in
+          absurd (omega (arith, count-all rows i l (λ u m. on u m f (cases-order u i))))
+        where
+          on : (u : ℕ) → u ≤ i → ((u : ℕ) → u < i → isKeep (rowAt rows u) ≡ true) → (u ≡ i) ⊎ ((u < i) ⊎ (i < u)) → isKeep (rowAt rows u) ≡ true
+          on u m f (inl q) = subst (λ (z : ℕ). isKeep (rowAt rows z) ≡ true) (sym q) e
+          on u m f (inr (inl q)) = f u q
+          on u m f (inr (inr q)) = absurd (omega arith)
+
+  pub ordered : Ordered (h .cycle) rows
+  ordered = record { after = after; inside = λ i l. end-within h (rowAt rows i) (rules i l .fields) }
+
+  not-keep : (i : ℕ) → i < n → isKeep (at i) ≡ false
+  not-keep i l = after (nk + i) (omega arith) (below i l)
+
+  -- Each call or send is within its limits.
+  pub fields : (i : ℕ) → i < n → Fields h (rowsOf rows i)
+  fields i l = fields-of h (at i) (not-keep i l) (rules (nk + i) (below i l) .fields)
+
+  supplied : (i s x : ℕ) (ts : List Test) → i < n → Available rows (nk + i) s x (rowsOf rows i .date) ts
+      → Supplied (rowsOf rows) n (h .cycle) (keepsOf rows) nk i s (asTests ts) x
+  supplied i s x ts l (u, lu, v) = go (cases-lt u nk)
+    where
+      go : (u < nk) ⊎ (nk ≤ u) → Supplied (rowsOf rows) n (h .cycle) (keepsOf rows) nk i s (asTests ts) x
+      go (inl k) = let q = keep-provides (rowAt rows u) s x _ ts (keep-front rows u k) v in inl (u, k, q .0, q .1)
+      go (inr k) =
+          let z : u ≡ nk + (u - nk) = omega arith in
+          let q = row-provides (at (u - nk)) s x _ ts (not-keep (u - nk) (omega arith)) (subst (λ (y : ℕ). Provides (rowAt rows y) s x (rowsOf rows i .date) ts) z v) in
+          inr (u - nk, omega arith, q .0, q .1, q .2, q .3)
+
+  abbrev needs : (i : ℕ) → i < n → ReadsAvailable rows (nk + i) (at i)
+  needs i l = rules (nk + i) (below i l) .reads
+
+  tests-as : (row : Row) → asRow row .tests ≡ asTests (testsIn row)
+  tests-as row = tests-same row
+
+  tested : (i s : ℕ) → i < n → Concerns (rowsOf rows i) s → (c : List Asked) (t : Asked) (d : List Asked) → rowsOf rows i .tests ≡ c ++ (t ∷ d)
+      → Supplied (rowsOf rows) n (h .cycle) (keepsOf rows) nk i s c (t .var)
+  tested i s l k c t d e =
+      let ts = testsIn (at i) in
+      let p = split ts c t d (sym (tests-as (at i)) ∙ e) in
+      let a = reads-tests rows (nk + i) (at i) s (not-keep i l) (needs i l) k ts (sym (tests-as (at i))) (length c) (p .0) in
+      let b = supplied i s (testAt ts (length c) .variable) (take (length c) ts) l a in
+      subst (λ (z : List Asked). Supplied (rowsOf rows) n (h .cycle) (keepsOf rows) nk i s z (t .var)) (p .2)
+      (subst (λ (z : Asked). Supplied (rowsOf rows) n (h .cycle) (keepsOf rows) nk i s (asTests (take (length c) ts)) (z .var)) (p .1) b)
+
+  first : (i : ℕ) → i < n → 0 < rowsOf rows i .count → Supplied (rowsOf rows) n (h .cycle) (keepsOf rows) nk i (rowsOf rows i .st) (rowsOf rows i .tests) (rowsOf rows i .one)
+  first i l c = subst (λ (z : List Asked). Supplied (rowsOf rows) n (h .cycle) (keepsOf rows) nk i (rowsOf rows i .st) z (rowsOf rows i .one)) (sym (tests-as (at i)))
+      (supplied i (rowsOf rows i .st) (rowsOf rows i .one) (testsIn (at i)) l (reads-first rows (nk + i) (at i) (not-keep i l) (needs i l) c))
+
+  second : (i : ℕ) → i < n → 1 < rowsOf rows i .count → Supplied (rowsOf rows) n (h .cycle) (keepsOf rows) nk i (rowsOf rows i .st) (rowsOf rows i .tests) (rowsOf rows i .two)
+  second i l c = subst (λ (z : List Asked). Supplied (rowsOf rows) n (h .cycle) (keepsOf rows) nk i (rowsOf rows i .st) z (rowsOf rows i .two)) (sym (tests-as (at i)))
+      (supplied i (rowsOf rows i .st) (rowsOf rows i .two) (testsIn (at i)) l (reads-second rows (nk + i) (at i) (not-keep i l) (needs i l) c))
+
+  once : (m m′ : ℕ) → m < nk → m′ < nk → keepsOf rows m .into ≡ keepsOf rows m′ .into → m ≡ m′
+  once m m′ l l′ e = go (cases-order m m′)
+    where
+      few : nk ≤ length rows
+      few = keep-few rows
+      go : (m ≡ m′) ⊎ ((m < m′) ⊎ (m′ < m)) → m ≡ m′
+      go (inl q) = q
+      go (inr (inl q)) = absurd (keeps-apart (rowAt rows m) (rowAt rows m′) (keep-front rows m l) (keep-front rows m′ l′) (rules m′ (omega (arith, few)) .writers m q) e)
+      go (inr (inr q)) = absurd (keeps-apart (rowAt rows m′) (rowAt rows m) (keep-front rows m′ l′) (keep-front rows m l) (rules m (omega (arith, few)) .writers m′ q) (sym e))
+
+  -- The rules of acceptance, on the schedule.
+  pub judged : Judged (rowsOf rows) (rowTotal rows) (h .cycle) (keepsOf rows) (keepCount rows)
+  judged = record
+    { long = λ i l. fields i l .long
+    ; inside = λ i l. fields i l .inside
+    ; copies = λ i l q. fields i l .copies q
+    ; once = once
+    ; unwritten = λ i m l k s q. keep-unwritten (rowAt rows m) (at i) (keep-front rows m k) (not-keep i l) (rules (nk + i) (below i l) .writers m (omega arith)) s q
+    ; writers = λ i j l k s t q. writers-apart (at i) (at j) (not-keep i (omega arith)) (not-keep j k) (rules (nk + j) (below j k) .writers (nk + i) (omega arith)) s t q
+    ; calls = λ i j l k s t q. calls-apart (at i) (at j) (not-keep i (omega arith)) (not-keep j k) (rules (nk + j) (below j k) .overlaps (nk + i) (omega arith)) s t q
+    ; lines = λ i j l k s t. sends-apart (at i) (at j) (not-keep i (omega arith)) (not-keep j k) (rules (nk + j) (below j k) .overlaps (nk + i) (omega arith)) s t
+    ; tested = tested
+    ; first = first
+    ; second = second }
+
+  keeps-few : nk ≤ 16
+  keeps-few = go (cases-lt 0 nk)
+    where
+      go : (0 < nk) ⊎ (nk ≤ 0) → nk ≤ 16
+      go (inl q) = let few = keep-few rows in omega (arith, placed-keep rows (nk - 1) (rowAt rows (nk - 1)) (rules (nk - 1) (omega arith) .placed) (keep-front rows (nk - 1) (omega arith)) .0)
+      go (inr q) = omega arith
+
+  -- The limits, on the schedule.
+  pub limits : headWithin h ≡ true → h .rows ≡ length rows
+      → Limits (rowsOf rows) (rowTotal rows) (h .cycle) (keepsOf rows) (keepCount rows) (h .stations) (h .variables)
+  limits w len =
+      let a = and-parts ((ltb 0 (h .stations) && ltb (h .stations) 9) && (ltb 0 (h .variables) && ltb (h .variables) 65)) _ w in
+      let b = and-parts (ltb 0 (h .stations) && ltb (h .stations) 9) _ (a .0) in
+      let s = and-parts (ltb 0 (h .stations)) _ (b .0) in
+      let v = and-parts (ltb 0 (h .variables)) _ (b .1) in
+      let c = and-parts (ltb 0 (h .cycle) && ltb (h .cycle) 65536) _ (a .1) in
+      let t = and-parts (ltb 0 (h .cycle)) _ (c .0) in
+      record
+      { fewStations = omega (arith, ltb-true _ _ (s .1))
+      ; fewVariables = omega (arith, ltb-true _ _ (v .1))
+      ; rows = omega (arith, ltb-true _ _ (c .1), keep-few rows)
+      ; keeps = keeps-few
+      ; cycle = (omega (arith, ltb-true _ _ (t .0)), omega (arith, ltb-true _ _ (t .1)))
+      ; kept = λ m l. let few = keep-few rows in keep-within h (rowAt rows m) (keep-front rows m l) (rules m (omega arith) .fields)
+      ; works = λ k l q. fields k l .work
+      ; few = λ k l. fields k l .few
+      ; first = λ k l q. fields k l .first q
+      ; second = λ k l q. fields k l .second q
+      ; output = λ k l. fields k l .output
+      ; tests = λ k l. fields k l .tests
+      ; tested = λ k t l m. fields k l .tested t m }
