@@ -1,3 +1,4 @@
+pub mod Laws
 pub mod Ordered
 pub mod Schedules
 pub mod Translation
