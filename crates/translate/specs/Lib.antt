@@ -2,4 +2,5 @@ pub mod Laws
 pub mod Ordered
 pub mod Schedules
 pub mod Translation
+pub mod Turns
 pub mod Worked
