@@ -2,3 +2,4 @@ pub mod Dates
 pub mod Judging
 pub mod Lawfulness
 pub mod Maps
+pub mod Woken

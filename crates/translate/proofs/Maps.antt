@@ -90,7 +90,7 @@ keep-idle p (keepRow k) e = refl
 keep-idle p (callRow c) e = absurd (false≢true e)
 keep-idle p (sendRow s) e = absurd (false≢true e)
 
-relation-same : (r : Relation) → relationFrom (isEqual r) ≡ r
+pub relation-same : (r : Relation) → relationFrom (isEqual r) ≡ r
 relation-same Equal = refl
 relation-same Unequal = refl
 
@@ -107,10 +107,10 @@ module _ (cycle : ℕ) (rows : List Row) (p : ℕ) (ord : Ordered cycle rows) wh
   abbrev C : PlannedStep → Step
   C = concrete rows p
 
-  total : nk + n ≡ length rows
+  pub total : nk + n ≡ length rows
   total = let l = keep-few rows in omega arith
 
-  due-same : (d i : ℕ) → i < n → isDue cycle rows p d (nk + i) ≡ due h d i
+  pub due-same : (d i : ℕ) → i < n → isDue cycle rows p d (nk + i) ≡ due h d i
   due-same d i l = ap₂ (λ (x y : Bool). x && y) (mine-same p (rowAt rows (nk + i)) (ord .after (nk + i) (omega arith) (omega arith))) (ap (λ (z : ℕ). eqb z d) (date-same (rowAt rows (nk + i))))
 
   idle : (d i : ℕ) → i < nk → isDue cycle rows p d i ≡ false
@@ -278,7 +278,7 @@ module _ (cycle : ℕ) (rows : List Row) (p : ℕ) (ord : Ordered cycle rows) wh
       ∙ ap (λ (x : List Step). givesTo cycle rows p (nk + k) ++ x) (no-keep (nk + k) (rowAt rows (nk + k)) (ord .after (nk + k) (omega arith) (omega arith)) .1)
       ∙ append-nil _ ∙ gives-rest k (omega arith)
 
-  preparation-same : preparation cycle rows p ≡ map C (headOf (keepsOf rows) nk p)
+  pub preparation-same : preparation cycle rows p ≡ map C (headOf (keepsOf rows) nk p)
   preparation-same = ap (λ (b : Bool). cond b [] (keepsTo cycle rows p (length rows) ++ (Clear ∷ givesTo cycle rows p (length rows)))) (line-same p) ∙ go (plannedLine p)
     where
       K : List PlannedStep
@@ -296,7 +296,7 @@ module _ (cycle : ℕ) (rows : List Row) (p : ℕ) (ord : Ordered cycle rows) wh
   abbrev W : List PlannedStep
   W = headOf (keepsOf rows) nk p
 
-  opening-length : openingLength cycle rows p ≡ openLen h W
+  pub opening-length : openingLength cycle rows p ≡ openLen h W
   opening-length = ap₂ (λ (x : ℕ) (b : Bool). x + cond b 0 2) (ap length preparation-same ∙ length-map W C) (is-date 0)
 
   opening-same : opening cycle rows p ≡ map C (plannedOpening h W)

@@ -2,4 +2,5 @@ mod laws;
 mod worked;
 
 pub use laws::programs_lawful;
+pub use laws::turns_stand;
 pub use worked::worked_programs;
