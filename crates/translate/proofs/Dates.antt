@@ -8,7 +8,7 @@ use native.Mathlib.Omega.{arith}
 use native.Mathlib.Nat.{add-zero, add-suc, zero-add}
 use lib.Dec.{eqb, ltb, leb}
 use lib.ListN.{length}
-use Rattle.std.proofs.shelf.Tests.{cases-bool, cases-lt, cases-eq, cond-true, cond-false, and-parts, and-from, and-cases, or-parts, or-left, or-cases, eqb-true, eqb-false, eq-eqb, leb-true, leb-false, le-leb, lt-leb, lt-ltb, both-ways}
+use Rattle.std.proofs.shelf.Tests.{cases-bool, cases-lt, cases-eq, cond-true, cond-false, and-parts, and-from, and-cases, or-parts, or-left, or-right, or-cases, eqb-true, eqb-false, eq-eqb, leb-true, leb-false, le-leb, lt-leb, lt-ltb, both-ways}
 use Rattle.sheet.specs.declared.row.Row.{Row}
 use Rattle.sheet.specs.Rows.{rowAt}
 use Rattle.translate.specs.Translation.{testsIn, belongs, dateOf, isDue, someDue, isDate, firstAmong, firstDate, rowLength, rowsLength}
@@ -163,3 +163,24 @@ module _ (cycle : ℕ) (rows : List Row) (p : ℕ) where
         where
           lower : i < suc n → (i ≡ n → ⊥) → i < n
           lower l e = grind arith
+
+  some-at : (d n i : ℕ) → i < n → isDue cycle rows p d i ≡ true → someDue cycle rows p d n ≡ true
+  unfolding someDue
+  some-at d zero i l e = absurd (omega arith)
+  some-at d (suc n) i l e = go (cases-eq i n) (some-at d n i)
+    where
+      go : (i ≡ n) ⊎ (i ≡ n → ⊥) → (i < n → isDue cycle rows p d i ≡ true → someDue cycle rows p d n ≡ true) → (isDue cycle rows p d n || someDue cycle rows p d n) ≡ true
+      go (inl z) ih = or-left _ _ (subst (λ (k : ℕ). isDue cycle rows p d k ≡ true) z e)
+      go (inr z) ih = or-right (isDue cycle rows p d n) _ (ih (lower l z) e)
+        where
+          lower : i < suc n → (i ≡ n → ⊥) → i < n
+          lower l z = grind arith
+
+  -- The first date not before another is one, unless it is the end of the cycle.
+  pub first-date : (d : ℕ) → firstDate cycle rows p d < cycle → isDate cycle rows p (firstDate cycle rows p d) ≡ true
+  first-date d l = go (first-is d (length rows))
+    where
+      go : ((i : ℕ) × (i < length rows) × (belongs p (rowAt rows i) ≡ true) × (dateOf (rowAt rows i) ≡ firstDate cycle rows p d)) ⊎ (firstDate cycle rows p d ≡ cycle)
+          → isDate cycle rows p (firstDate cycle rows p d) ≡ true
+      go (inl (i, a, b, e)) = some-at (firstDate cycle rows p d) (length rows) i a (and-from _ _ b (eq-eqb _ _ e))
+      go (inr e) = absurd (omega arith)

@@ -1,4 +1,5 @@
 mod laws;
+mod share;
 mod worked;
 
 pub use laws::programs_lawful;
