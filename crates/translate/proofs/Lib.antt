@@ -1,0 +1,5 @@
+pub mod Dates
+pub mod Judging
+pub mod Lawfulness
+pub mod Maps
+pub mod Woken

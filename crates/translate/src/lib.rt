@@ -1,0 +1,7 @@
+mod laws;
+mod share;
+mod worked;
+
+pub use laws::programs_lawful;
+pub use laws::turns_stand;
+pub use worked::worked_programs;
