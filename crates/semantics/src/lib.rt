@@ -1,0 +1,9 @@
+mod state;
+
+pub use state::Job;
+pub use state::Mark;
+pub use state::Message;
+pub use state::Reply;
+pub use state::Request;
+pub use state::State;
+pub use state::UnitState;
