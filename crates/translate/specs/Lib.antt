@@ -1,0 +1,3 @@
+pub mod Schedules
+pub mod Translation
+pub mod Worked

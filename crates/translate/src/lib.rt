@@ -1,0 +1,3 @@
+mod worked;
+
+pub use worked::worked_programs;
