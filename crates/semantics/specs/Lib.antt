@@ -1,3 +1,4 @@
 pub mod Reading
 pub mod Machine
 pub mod Requests
+pub mod Worked

@@ -38,11 +38,11 @@ abbrev pub limit : ℕ
 limit = 16777215
 
 -- A station has 64 places.
-abbrev pub perStation : ℕ
-perStation = 64
+abbrev pub placesEach : ℕ
+placesEach = 64
 
 abbrev pub placeOf : ℕ → ℕ → ℕ
-placeOf station variable = perStation * station + variable
+placeOf station variable = placesEach * station + variable
 
 abbrev pub blankMark : Mark
 blankMark = record { count = 0; tick = 0; first = None; second = None; given = None }
@@ -133,7 +133,7 @@ emptied station (suc n) places = set (emptied station n places) (placeOf station
 
 abbrev pub withCleared : State → ℕ → State
 withCleared s station = record {
-  places = emptied station perStation (s .places);
+  places = emptied station placesEach (s .places);
   cells = s .cells; marks = s .marks; units = s .units; line = s .line; granted = s .granted; stopped = s .stopped;
 }
 

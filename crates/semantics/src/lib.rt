@@ -1,4 +1,5 @@
 mod state;
+mod worked;
 
 pub use state::Job;
 pub use state::Mark;
@@ -7,3 +8,4 @@ pub use state::Reply;
 pub use state::Request;
 pub use state::State;
 pub use state::UnitState;
+pub use worked::worked_cases;
