@@ -2,3 +2,4 @@ pub mod Reading
 pub mod Machine
 pub mod Requests
 pub mod Worked
+pub mod Promise
