@@ -1,3 +1,4 @@
 pub mod Lists
 pub mod Guarded
 pub mod Alike
+pub mod Stepping
