@@ -1,3 +1,6 @@
+pub mod Laws
+pub mod Ordered
 pub mod Schedules
 pub mod Translation
+pub mod Turns
 pub mod Worked

@@ -13,6 +13,10 @@ use Rattle.sheet.specs.Rows.{testsOf, rowAt}
 use Rattle.judge.specs.Verdict.{listens}
 use Rattle.schedule.specs.Rows.{Test as Asked, Row as Planned}
 use Rattle.schedule.specs.Machine.{Keep as Kept}
+use Rattle.schedule.specs.Program.{Step as PlannedStep}
+use Rattle.netcode.specs.declared.step.Step.{Step}
+use Rattle.netcode.specs.declared.step.Step.the-variants.{Test as testStep, Future, Halt, Keep, Clear, Give}
+use Rattle.translate.specs.Translation.{act}
 
 -- A sheet as a schedule: its keep rows, and after them its calls and sends, numbered from 0 again.
 
@@ -76,3 +80,18 @@ rowTotal rows = length rows - keepCount rows
 
 abbrev pub keepsOf : List Row → ℕ → Kept
 keepsOf rows m = asKeep (rowAt rows m)
+
+-- A step of a schedule's program p as a step of the sheet's: `act k` is what the program does of row k, whose
+-- number in the sheet is counted from the first keep row.
+abbrev pub relationFrom : Bool → Relation
+relationFrom true = Equal
+relationFrom false = Unequal
+
+abbrev pub concrete : List Row → ℕ → PlannedStep → Step
+concrete rows p (PlannedStep.test t a) = testStep (t .var) (relationFrom (t .equal)) (t .word) a
+concrete rows p (PlannedStep.future n a) = Future n a
+concrete rows p PlannedStep.halt = Halt
+concrete rows p (PlannedStep.act k) = act p (keepCount rows + k) (rowAt rows (keepCount rows + k))
+concrete rows p (PlannedStep.keep x m) = Keep x m
+concrete rows p PlannedStep.clear = Clear
+concrete rows p (PlannedStep.give m x w) = Give m x w

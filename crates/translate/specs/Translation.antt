@@ -43,8 +43,9 @@ belongs p (callRow c) = not (isLine p) && eqb (c .station) (stationOf p)
 belongs p (sendRow s) = isLine p && (eqb (s .station) (stationOf p) || listens (s .listeners) (stationOf p))
 
 -- What program p does of row i: the station's own call or send, or the receipt of what another station sends.
+-- Of a keep row nothing is asked.
 abbrev pub act : ℕ → ℕ → Row → Step
-act p i (keepRow k) = Halt
+act p i (keepRow k) = Clear
 act p i (callRow c) = Call i (c .work) (c .inputs) (c .output) (c .duration)
 act p i (sendRow s) = cond (eqb (s .station) (stationOf p)) (Send i (s .variable) (s .duration)) (Receive (s .variable) (s .duration))
 
