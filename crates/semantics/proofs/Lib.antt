@@ -2,3 +2,5 @@ pub mod Lists
 pub mod Guarded
 pub mod Alike
 pub mod Stepping
+pub mod Owned
+pub mod Ticking
