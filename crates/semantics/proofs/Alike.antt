@@ -56,7 +56,7 @@ module _ (m : Model) (r : ℕ → Row) (n L : ℕ) (kp : ℕ → Keep) (nk : ℕ
 
   abbrev pub JobAlike : ℕ → Option PlannedJob → Job → Type 0
   JobAlike j None job = job ≡ Idle
-  JobAlike j (Some q) job = (a : ℕ) × (job ≡ jobOf j q a)
+  JobAlike j (Some q) job = (a : ℕ) × (q .row < n) × (job ≡ jobOf j q a)
 
   pub record UnitAlike (late j : ℕ) (b : PlannedUnit) (u : UnitState) : Type 0 where
     pub timer : Timed late (u .timer) (b .at)
@@ -266,7 +266,7 @@ module _ (m : Model) (r : ℕ → Row) (n L : ℕ) (kp : ℕ → Keep) (nk : ℕ
     ; marks = λ i l. mark-read (w .state) k i _ _ (b .mark i) (al .shape) lrow
         (same-mark _ _ _ _ _ _ _ _ _ _ (counted-more b w late k lk al) eT ef es (ap Some said-so)) (al .marks i l)
     ; units = λ i l. job-unit late b s1 j i _ _ sh1 lj (al .units)
-        (0, ap₂ (λ (t v : ℕ). Store (t + r k .dur) (r k .out) v) eT said-so ∙ sym (cond-false _ _ _ nl)) l }
+        (0, lk, ap₂ (λ (t v : ℕ). Store (t + r k .dur) (r k .out) v) eT said-so ∙ sym (cond-false _ _ _ nl)) l }
     where
       s1 : State
       s1 = real.marked (w .state) (nk + k) (real.firstWord words) (real.secondWord words) (m .answer (w .plant) (asked (j / 2) (r k .work) words))
@@ -288,7 +288,7 @@ module _ (m : Model) (r : ℕ → Row) (n L : ℕ) (kp : ℕ → Keep) (nk : ℕ
     ; marks = λ i l. mark-read (w .state) k i _ _ (b .mark i) (al .shape) lrow
         (same-mark _ _ _ _ _ _ _ _ _ _ (counted-more b w late k lk al) eT ef es (ap Some ew)) (al .marks i l)
     ; units = λ i l. job-unit late b s1 j i _ _ sh1 lj (al .units)
-        (0, ap (λ (t : ℕ). Carry (t + r k .dur)) eT ∙ sym (cond-true _ _ _ il ∙ cond-true _ _ _ ow)) l }
+        (0, lk, ap (λ (t : ℕ). Carry (t + r k .dur)) eT ∙ sym (cond-true _ _ _ il ∙ cond-true _ _ _ ow)) l }
     where
       s1 : State
       s1 = real.marked (w .state) (nk + k) (Some word) None word
@@ -300,10 +300,16 @@ module _ (m : Model) (r : ℕ → Row) (n L : ℕ) (kp : ℕ → Keep) (nk : ℕ
       sh2 = record { places = u .places; cells = u .cells; marks = u .marks; units = u .units }
 
   -- RECEIVE
-  pub listen-alike : (late : ℕ → ℕ) (b : Bench (m .State)) (w : World (m .State)) (j k T a : ℕ) → j < 16 → w .state .granted ≡ T
+  pub listen-alike : (late : ℕ → ℕ) (b : Bench (m .State)) (w : World (m .State)) (j k T a : ℕ) → j < 16 → k < n → w .state .granted ≡ T
       → isLine j ≡ true → owns j k ≡ false → Alike late b w
       → Alike late (begunBy false true j k T b) (real.at w (withJob (w .state) j (Listen (w .state .granted + r k .dur) (r k .out) a)))
-  listen-alike late b w j k T a lj eT il ow al = record
+  listen-alike late b w j k T a lj lk eT il ow al = record
     { shape = unit-shape (w .state) j _ (al .shape); plant = al .plant; places = al .places; cells = al .cells; marks = al .marks; line = al .line
     ; units = λ i l. job-unit late b (w .state) j i _ _ (al .shape) lj (al .units)
-        (a, ap (λ (t : ℕ). Listen (t + r k .dur) (r k .out) a) eT ∙ sym (cond-true _ _ _ il ∙ cond-false _ _ _ ow)) l }
+        (a, lk, ap (λ (t : ℕ). Listen (t + r k .dur) (r k .out) a) eT ∙ sym (cond-true _ _ _ il ∙ cond-false _ _ _ ow)) l }
+
+  -- The count of granted ticks is not compared.
+  pub granted-alike : (late : ℕ → ℕ) (b : Bench (m .State)) (w : World (m .State)) (t : ℕ) → Alike late b w → Alike late b (real.at w (real.withGranted (w .state) t))
+  granted-alike late b w t al = record
+    { shape = record { places = al .shape .places; cells = al .shape .cells; marks = al .shape .marks; units = al .shape .units }
+    ; plant = al .plant; places = al .places; cells = al .cells; marks = al .marks; units = al .units; line = al .line }

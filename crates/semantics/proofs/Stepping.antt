@@ -311,7 +311,7 @@ module _ (m : Model) (rows : List Row) (L : ℕ) where
             alike : Same late (begun k b) (real.at w (withJob (w .state) j (Listen (w .state .granted + s .duration) (s .variable) pc)))
             alike = as-begun k b _ false true ow sf
                 (subst (λ (x : Planned). Same late (begunBy m r n L (keepsOf rows) nk false true j k T b) (real.at w (withJob (w .state) j (Listen (w .state .granted + x .dur) (x .out) pc)))) rk
-                (listen-alike m r n L (keepsOf rows) nk late b w j k T pc lj (g .granted) il ow al))
+                (listen-alike m r n L (keepsOf rows) nk late b w j k T pc lj lk (g .granted) il ow al))
 
         way : (q : Bool) → eqb (s .station) (j / 2) ≡ q → Leads b w go c (real.performed m (cond q (sendStep (nk + k) (s .variable) (s .duration)) (receiveStep (s .variable) (s .duration))) j pc w)
         way true e =

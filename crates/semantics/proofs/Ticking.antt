@@ -12,22 +12,23 @@ use Rattle.std.proofs.shelf.Lists.{getD-map, getD-past, length-map}
 use Rattle.std.proofs.shelf.Tests.{cases-eq, cases-lt, cases-bool, eq-eqb, ne-eqb, eqb-true, cond-true, cond-false, both-ways, lt-ltb, le-ltb}
 use Rattle.std.specs.declared.option.Option.{Option}
 use Rattle.std.specs.declared.option.Option.the-variants.{Some, None}
+use Rattle.fault.specs.declared.refusal.Refusal.the-variants.{NoMessage}
 use Rattle.sheet.specs.declared.row.Row.{Row}
 use Rattle.netcode.specs.declared.step.Step.{Step}
 use Rattle.netcode.specs.declared.step.Step.the-variants.{Halt}
 use Rattle.plant.specs.Model.{Model, leaves}
 use Rattle.schedule.specs.Rows.{Row as Planned}
 use Rattle.schedule.specs.Program.{Step as PlannedStep, exec}
-use Rattle.schedule.specs.Machine.{Bench, Job as PlannedJob, Message as PlannedMessage, isNone, isLine, bind, program, engine, turnAt, firstTo, heard, land, ended, settleTo, leave, tick}
+use Rattle.schedule.specs.Machine.{Bench, Job as PlannedJob, Message as PlannedMessage, isNone, isLine, bind, program, engine, turnAt, firstTo, store, release, heard, land, ended, settleTo, leave, tick}
 use Rattle.translate.specs.Schedules.{keepCount, rowsOf, rowTotal, keepsOf, concrete}
 use Rattle.semantics.specs.declared.state.Job.{Job}
 use Rattle.semantics.specs.declared.state.Job.the-variants.{Idle, Store, Carry, Listen}
 use Rattle.semantics.specs.declared.state.Message.{Message}
 use Rattle.semantics.specs.declared.state.State.{State}
 use Rattle.semantics.specs.Machine as real
-use Rattle.semantics.specs.Machine.{World, Outcome, andThen, unitIn, isIdle, isBusy, withTimer}
+use Rattle.semantics.specs.Machine.{World, Outcome, andThen, unitIn, isIdle, isBusy, withTimer, withJob, withGranted, limit}
 use Rattle.semantics.proofs.Guarded.{guarded}
-use Rattle.semantics.proofs.Alike.{Alike, Timed, JobAlike, UnitAlike, jobOf, owns, asLine, alike-up, spend-alike, store-alike, release-alike, leave-alike}
+use Rattle.semantics.proofs.Alike.{Alike, Timed, JobAlike, UnitAlike, jobOf, owns, asLine, alike-up, spend-alike, store-alike, release-alike, leave-alike, granted-alike}
 use Rattle.semantics.proofs.Stepping.{Going, Fine, RowFine, steps-alike}
 
 never : {A : Type 0} {B : Type 0} (x : A) → _≡_ {A = Option A} None (Some x) → B
@@ -142,3 +143,162 @@ module _ (m : Model) (rows : List Row) (L : ℕ) where
               where
                 back : Reached (lateTo T (suc j)) T c (real.awake m code j w) → Reached (lateTo T (suc j)) T c (real.turn m code j w)
                 back (v, x, y, z) = (v, cond-true _ _ _ (same ∙ e) ∙ x, y, z)
+
+    -- The first part of a tick.
+    first-alike : (k T : ℕ) (b c : Bench S) (w : World S) → k ≤ length programs → Same (lateTo T 0) b w → Going T (w .state)
+        → firstTo (leaves m) (guarded m) (m .known) r n L (keepsOf rows) nk T k b ≡ Some c
+        → Reached (lateTo T k) T c (real.firstPart m programs k w)
+    unfolding firstTo real.firstPart
+    first-alike zero T b c w l al g h = (w, refl, subst (λ (x : Bench S). Same (lateTo T 0) x w) (some-same h) al, g)
+      where
+        some-same : _≡_ {A = Option (Bench S)} (Some b) (Some c) → b ≡ c
+        some-same q = cc
+    first-alike (suc k) T b c w l al g h = on (firstTo (leaves m) (guarded m) (m .known) r n L (keepsOf rows) nk T k b) refl h (λ d e. first-alike k T b d w (omega arith) al g e)
+      where
+        on : (o : Option (Bench S)) → firstTo (leaves m) (guarded m) (m .known) r n L (keepsOf rows) nk T k b ≡ o
+            → bind o (turnAt (leaves m) (guarded m) (m .known) r n L (keepsOf rows) nk k T) ≡ Some c
+            → ((d : Bench S) → firstTo (leaves m) (guarded m) (m .known) r n L (keepsOf rows) nk T k b ≡ Some d → Reached (lateTo T k) T d (real.firstPart m programs k w))
+            → Reached (lateTo T (suc k)) T c (andThen (real.firstPart m programs k w) (real.turn m (getD programs k []) k))
+        on None e hc ih = never c hc
+        on (Some d) e hc ih = next (ih d e)
+          where
+            next : Reached (lateTo T k) T d (real.firstPart m programs k w) → Reached (lateTo T (suc k)) T c (andThen (real.firstPart m programs k w) (real.turn m (getD programs k []) k))
+            next (v, x, y, z) = back (turn-alike k T d c v l y z hc)
+              where
+                back : Reached (lateTo T (suc k)) T c (real.turn m (getD programs k []) k v) → Reached (lateTo T (suc k)) T c (andThen (real.firstPart m programs k w) (real.turn m (getD programs k []) k))
+                back (u, p, q, s) = (u, ap (λ (o : Outcome S). andThen o (real.turn m (getD programs k []) k)) x ∙ p, q, s)
+
+    -- The second part, for one unit.
+    some-bench : (b c : Bench S) → _≡_ {A = Option (Bench S)} (Some b) (Some c) → b ≡ c
+    some-bench b c q = cc
+
+    moved : (late : ℕ → ℕ) (b c : Bench S) (w : World S) → _≡_ {A = Option (Bench S)} (Some b) (Some c) → Same late b w → Same late c w
+    moved late b c w e al = subst (λ (x : Bench S). Same late x w) (some-bench b c e) al
+
+    heard-alike : (late : ℕ → ℕ) (j T C k a : ℕ) (b c : Bench S) (w : World S) (o : Option PlannedMessage) → j < 16 → k < n → Same late b w → Going T (w .state)
+        → heard (leaves m) (guarded m) (m .known) r n L (keepsOf rows) nk o C j k b ≡ Some c
+        → Reached late T c (real.heard m (asLine o) C j (r k .out) a w)
+    heard-alike late j T C k a b c w None lj lk al g h = never c h
+    heard-alike late j T C k a b c w (Some x) lj lk al g h = way (eqb (x .stop) C) h
+      where
+        way : (q : Bool) → cond q (Some (store (leaves m) (guarded m) (m .known) r n L (keepsOf rows) nk j k (x .word) b)) None ≡ Some c
+            → Reached late T c (cond q (Outcome.done (real.stored m j (r k .out) (x .word) w)) (Outcome.refused (real.faultAt NoMessage j a) w))
+        way true e = (real.stored m j (r k .out) (x .word) w, refl,
+            moved late _ c _ e (store-alike m r n L (keepsOf rows) nk late b w j k (x .word) lj (half j lj) (row-fine k lk .output) al), record { granted = g .granted; going = g .going })
+        way false e = never c e
+
+    ended-alike : (late : ℕ → ℕ) (j T C : ℕ) (b c : Bench S) (w : World S) (busy : Option PlannedJob) (job : Job) → j < 16 → Same late b w → Going T (w .state)
+        → JobAlike m r n L (keepsOf rows) nk j busy job → ended (leaves m) (guarded m) (m .known) r n L (keepsOf rows) nk busy C j b ≡ Some c
+        → Reached late T c (real.ended m job C j w)
+    ended-alike late j T C b c w None job lj al g ja h =
+        subst (λ (x : Job). Reached late T c (real.ended m x C j w)) (sym ja) (w, refl, moved late b c w h al, g)
+    ended-alike late j T C b c w (Some q) job lj al g (a, lk, ja) h =
+        subst (λ (x : Job). Reached late T c (real.ended m x C j w)) (sym ja) (split (isLine j) (owns m r n L (keepsOf rows) nk j (q .row)) h)
+      where
+        k : ℕ
+        k = q .row
+        Released : Bench S
+        Released = release (leaves m) (guarded m) (m .known) r n L (keepsOf rows) nk j b
+        Stored : Bench S
+        Stored = store (leaves m) (guarded m) (m .known) r n L (keepsOf rows) nk j k (q .word) b
+        Heard : Option (Bench S)
+        Heard = heard (leaves m) (guarded m) (m .known) r n L (keepsOf rows) nk (b .line) C j k b
+
+        storing : (t : Bool) → cond t (Some Stored) (Some b) ≡ Some c → Reached late T c (cond t (Outcome.done (real.stored m j (r k .out) (q .word) w)) (Outcome.done w))
+        storing true e = (real.stored m j (r k .out) (q .word) w, refl,
+            moved late Stored c _ e (store-alike m r n L (keepsOf rows) nk late b w j k (q .word) lj (half j lj) (row-fine k lk .output) al), record { granted = g .granted; going = g .going })
+        storing false e = (w, refl, moved late b c w e al, g)
+
+        releasing : (t : Bool) → cond t (Some Released) (Some b) ≡ Some c → Reached late T c (cond t (Outcome.done (real.at w (withJob (w .state) j Idle))) (Outcome.done w))
+        releasing true e = (real.at w (withJob (w .state) j Idle), refl,
+            moved late Released c _ e (release-alike m r n L (keepsOf rows) nk late b w j lj al), record { granted = g .granted; going = g .going })
+        releasing false e = (w, refl, moved late b c w e al, g)
+
+        hearing : (t : Bool) → cond t Heard (Some b) ≡ Some c → Reached late T c (cond t (real.heard m (w .state .line) C j (r k .out) a w) (Outcome.done w))
+        hearing true e = subst (λ (x : Option Message). Reached late T c (real.heard m x C j (r k .out) a w)) (sym (al .line)) (heard-alike late j T C k a b c w (b .line) lj lk al g e)
+        hearing false e = (w, refl, moved late b c w e al, g)
+
+        split : (l o : Bool) → cond (eqb (q .stop) C) (cond l (cond o (Some Released) Heard) (Some Stored)) (Some b) ≡ Some c
+            → Reached late T c (real.ended m (cond l (cond o (Carry (q .stop)) (Listen (q .stop) (r k .out) a)) (Store (q .stop) (r k .out) (q .word))) C j w)
+        split true true e = releasing (eqb (q .stop) C) e
+        split true false e = hearing (eqb (q .stop) C) e
+        split false o e = storing (eqb (q .stop) C) e
+
+    settle-alike : (late : ℕ → ℕ) (k T C : ℕ) (b c : Bench S) (w : World S) → k ≤ length programs → Same late b w → Going T (w .state)
+        → settleTo (leaves m) (guarded m) (m .known) r n L (keepsOf rows) nk C k b ≡ Some c
+        → Reached late T c (real.secondPart m programs C k w)
+    unfolding settleTo real.secondPart
+    settle-alike late zero T C b c w l al g h = (w, refl, moved late b c w h al, g)
+    settle-alike late (suc k) T C b c w l al g h = on (settleTo (leaves m) (guarded m) (m .known) r n L (keepsOf rows) nk C k b) refl h (λ d e. settle-alike late k T C b d w (omega arith) al g e)
+      where
+        step : World S → Outcome S
+        step v = real.ended m (unitIn (v .state) k .job) C k v
+        on : (o : Option (Bench S)) → settleTo (leaves m) (guarded m) (m .known) r n L (keepsOf rows) nk C k b ≡ o
+            → bind o (λ d. ended (leaves m) (guarded m) (m .known) r n L (keepsOf rows) nk (d .units k .busy) C k d) ≡ Some c
+            → ((d : Bench S) → settleTo (leaves m) (guarded m) (m .known) r n L (keepsOf rows) nk C k b ≡ Some d → Reached late T d (real.secondPart m programs C k w))
+            → Reached late T c (andThen (real.secondPart m programs C k w) step)
+        on None e hc ih = never c hc
+        on (Some d) e hc ih = next (ih d e)
+          where
+            next : Reached late T d (real.secondPart m programs C k w) → Reached late T c (andThen (real.secondPart m programs C k w) step)
+            next (v, x, y, z) = back (ended-alike late k T C d c v (d .units k .busy) (unitIn (v .state) k .job) (omega arith) y z (y .units k (omega arith) .job) hc)
+              where
+                back : Reached late T c (step v) → Reached late T c (andThen (real.secondPart m programs C k w) step)
+                back (u, p, q, s) = (u, ap (λ (o : Outcome S). andThen o step) x ∙ p, q, s)
+
+    -- A tick, below the limit.
+    pub tick-alike : (T : ℕ) (b c : Bench S) (w : World S) → T < limit → Same (λ _. T) b w → Going T (w .state)
+        → tick (leaves m) (guarded m) (m .known) r n L (keepsOf rows) nk (length programs) T b ≡ Some c
+        → Reached (λ _. suc T) (suc T) c (real.tick m programs w)
+    tick-alike T b c w lt al g h = one (firstTo (leaves m) (guarded m) (m .known) r n L (keepsOf rows) nk T (length programs) b) refl h
+      where
+        N : ℕ
+        N = length programs
+        start : Same (lateTo T 0) b w
+        start = alike-up m r n L (keepsOf rows) nk (λ _. T) (lateTo T 0) b w (λ i. let e : lateTo T 0 i ≡ T = cond-false _ _ _ (le-ltb i 0 (omega arith)) in omega arith) al
+        top : (i : ℕ) → lateTo T N i ≤ suc T
+        top i = go (ltb i N)
+          where
+            go : (t : Bool) → cond t (suc T) T ≤ suc T
+            go true = omega arith
+            go false = omega arith
+        second : World S → Outcome S
+        second v = andThen (real.secondPart m programs (w .state .granted + 1) N v) (λ u. Outcome.done (real.leaves m (w .state .granted + 1) u))
+        clock : w .state .granted + 1 ≡ suc T
+        clock = add-one (w .state .granted) ∙ ap suc (g .granted)
+        whole : (o : Outcome S) → real.parts m programs w ≡ o → real.tick m programs w ≡ real.counted m programs (w .state .granted) o
+        whole o e = cond-false _ _ _ (g .going) ∙ cond-true _ _ _ (ap (λ (z : ℕ). ltb z limit) (g .granted) ∙ lt-ltb T limit lt) ∙ ap (real.counted m programs (w .state .granted)) e
+
+        finish : (d f : Bench S) (v u : World S) → real.firstPart m programs N w ≡ Outcome.done v → real.secondPart m programs (suc T) N v ≡ Outcome.done u
+            → leave (leaves m) (guarded m) (m .known) r n L (keepsOf rows) nk (suc T) f ≡ c → Same (lateTo T N) f u → Going T (u .state) → Reached (λ _. suc T) (suc T) c (real.tick m programs w)
+        finish d f v u e1 e2 e3 al2 g2 = (real.at u2 (withGranted (u2 .state) (w .state .granted + 1)), whole (Outcome.done u2) parts, alike, record { granted = clock; going = g2 .going })
+          where
+            u2 : World S
+            u2 = real.leaves m (suc T) u
+            parts : real.parts m programs w ≡ Outcome.done u2
+            parts = ap (λ (o : Outcome S). andThen o second) e1
+                ∙ ap (λ (z : ℕ). andThen (real.secondPart m programs z N v) (λ u. Outcome.done (real.leaves m z u))) clock
+                ∙ ap (λ (o : Outcome S). andThen o (λ u. Outcome.done (real.leaves m (suc T) u))) e2
+            alike : Same (λ _. suc T) c (real.at u2 (withGranted (u2 .state) (w .state .granted + 1)))
+            alike = granted-alike m r n L (keepsOf rows) nk (λ _. suc T) c u2 (w .state .granted + 1)
+                (alike-up m r n L (keepsOf rows) nk (lateTo T N) (λ _. suc T) c u2 top
+                (subst (λ (x : Bench S). Same (lateTo T N) x u2) e3 (leave-alike m r n L (keepsOf rows) nk (lateTo T N) f u (suc T) al2)))
+
+        two : (d : Bench S) (v : World S) → real.firstPart m programs N w ≡ Outcome.done v → Same (lateTo T N) d v → Going T (v .state)
+            → (o : Option (Bench S)) → settleTo (leaves m) (guarded m) (m .known) r n L (keepsOf rows) nk (suc T) N d ≡ o
+            → bind o (λ f. Some (leave (leaves m) (guarded m) (m .known) r n L (keepsOf rows) nk (suc T) f)) ≡ Some c
+            → Reached (λ _. suc T) (suc T) c (real.tick m programs w)
+        two d v e1 al1 g1 None e hc = never c hc
+        two d v e1 al1 g1 (Some f) e hc = end (settle-alike (lateTo T N) N T (suc T) d f v (omega arith) al1 g1 e)
+          where
+            end : Reached (lateTo T N) T f (real.secondPart m programs (suc T) N v) → Reached (λ _. suc T) (suc T) c (real.tick m programs w)
+            end (u, x, y, z) = finish d f v u e1 x (some-bench _ c hc) y z
+
+        one : (o : Option (Bench S)) → firstTo (leaves m) (guarded m) (m .known) r n L (keepsOf rows) nk T N b ≡ o
+            → bind o (λ d. bind (settleTo (leaves m) (guarded m) (m .known) r n L (keepsOf rows) nk (suc T) N d) (λ f. Some (leave (leaves m) (guarded m) (m .known) r n L (keepsOf rows) nk (suc T) f))) ≡ Some c
+            → Reached (λ _. suc T) (suc T) c (real.tick m programs w)
+        one None e hc = never c hc
+        one (Some d) e hc = end (first-alike N T b d w (omega arith) start g e)
+          where
+            end : Reached (lateTo T N) T d (real.firstPart m programs N w) → Reached (λ _. suc T) (suc T) c (real.tick m programs w)
+            end (v, x, y, z) = two d v x y z (settleTo (leaves m) (guarded m) (m .known) r n L (keepsOf rows) nk (suc T) N d) refl hc
