@@ -1,0 +1,6 @@
+pub mod Lists
+pub mod Guarded
+pub mod Alike
+pub mod Stepping
+pub mod Owned
+pub mod Ticking

@@ -1,0 +1,5 @@
+pub mod Reading
+pub mod Machine
+pub mod Requests
+pub mod Worked
+pub mod Promise
