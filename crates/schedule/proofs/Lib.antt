@@ -1,5 +1,4 @@
 pub mod Pick
-pub mod Order
 pub mod Valuation
 pub mod Blocks
 pub mod Wake

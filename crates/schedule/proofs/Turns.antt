@@ -14,13 +14,14 @@ use Rattle.std.proofs.shelf.Ways.{tells}
 use Rattle.schedule.specs.Rows.{Test, allMeet, Row, ends, reaches, Places, word1, word2, asked, Now, given, readTo, Excludes, Concerns, Accepted}
 use Rattle.plant.specs.Model.{Work}
 use Rattle.schedule.specs.Program.{Engine, exec, asks, Share, due, isDate, wake, addr, target, codeTo, turn, rowTurn, opening, openLen}
-use Rattle.schedule.specs.Plants.{Lawful, after}
+use Rattle.schedule.specs.Plants.{Lawful}
+use Rattle.plant.specs.Order.{afterBegun}
 use Rattle.schedule.specs.Machine.{Job, UnitState, Message, Mark, Bench, said, isNone, bind, isLine, owner, mine, shareOf, program, present, answered, gives, own, guard, begin, wait, engine, Keep, takeIn, orFirst, cellsOf, startOf, openOf, headOf, cellsAt, prepared, began, cellsAfter, turnAt, firstTo, Fit, marked, store, release, heard, land, ended, settleTo, left, leave, tick, ticks, Opened, Closed, CyclePromise, DatePromise}
 use Rattle.schedule.specs.Pick.{pick}
 use Rattle.schedule.proofs.Pick.{pick-cong, pick-none, pick-same, pick-inv, pick-some, find}
 use Rattle.schedule.proofs.Valuation.{at, did, word, val, did-final, word-final, excl-not}
 use Rattle.schedule.proofs.Supplies.{anyb, any-same, any-hit, any-miss, V, does, puts, held, shownAt, row-asks, all-present, input1, input2, at-end, shown-some, held-start, start-val}
-use Rattle.schedule.proofs.Order.{same-set, order-free}
+use Rattle.plant.proofs.Begun.{same-set, any-order}
 use Rattle.schedule.proofs.Blocks.{layout-any, opening-any, length-opening}
 use Rattle.schedule.proofs.Openings.{head-plain, head-runs}
 use Rattle.schedule.proofs.Wake.{wake-le, wake-most, wake-date, wake-skip, wake-end, due-date}
@@ -146,7 +147,7 @@ module _ {S : Type 0} (next : S → Work → S) (answer : S → Work → ℕ) (l
   begunCalls t j k = ((do? k && not (r k .sends)) && ltb k n) && ownBegun t j k
 
   abbrev pub plantAt : ℕ → ℕ → S
-  plantAt t j = after next works (begunCalls t j) (a .plant) n
+  plantAt t j = afterBegun next works (begunCalls t j) (a .plant) n
 
   abbrev pub markAt : ℕ → ℕ → ℕ → Mark
   markAt t j k = cond (do? k && ownBegun t j k) (marked next answer knows r n L kp nk base a k (old k)) (old k)
@@ -378,8 +379,8 @@ module _ {S : Type 0} (next : S → Work → S) (answer : S → Work → ℕ) (l
       E : ℕ → Bool
       E k = do? k && not (r k .sends)
 
-      plant-read : (m : ℕ) → readTo next answer r a m .plant ≡ after next works E (a .plant) m
-      unfolding readTo after E
+      plant-read : (m : ℕ) → readTo next answer r a m .plant ≡ afterBegun next works E (a .plant) m
+      unfolding readTo afterBegun E
       plant-read zero = refl
       plant-read (suc m) = ap (λ p. cond (do? m && not (r m .sends)) (next p (works m)) p) (plant-read m)
 
@@ -422,8 +423,8 @@ module _ {S : Type 0} (next : S → Work → S) (answer : S → Work → ℕ) (l
             go (inr q) = and-left _ _ (and-right _ _ q) ∙ sym (and-left _ _ (and-right _ _ q))
             go (inl q) = sym (calls-same k (λ d e o. ne (only k (ltb-true _ _ q) d (own-mine j (r k) o) e)))
 
-        done : (answer (plantAt t j) (works i) ≡ answer (after next works E (a .plant) i) (works i)) × (next (plantAt t j) (works i) ≡ plantAt t (suc j))
-        done = order-free next answer law works (begunCalls t j) (begunCalls t (suc j)) E (a .plant) n i li above below
+        done : (answer (plantAt t j) (works i) ≡ answer (afterBegun next works E (a .plant) i) (works i)) × (next (plantAt t j) (works i) ≡ plantAt t (suc j))
+        done = any-order next answer law works (begunCalls t j) (begunCalls t (suc j)) E (a .plant) n i li above below
             (and-right _ _ (own-not (r i .date) t (owner (r i)) j di own-i))
             (and-from _ _ (and-from _ _ (and-from _ _ dd (not-from-false _ call)) (lt-ltb _ _ li)) (own-now (r i .date) t (owner (r i)) j di own-i))
             rest
@@ -1219,8 +1220,8 @@ module _ {S : Type 0} (next : S → Work → S) (answer : S → Work → ℕ) (l
           on (d, x, w) = (d, ap (λ o. bind o (tick next answer knows r n L kp nk (2 * stations) (base + t))) z ∙ x, w)
 
   -- THE CYCLE'S BEGINNING AND END
-  after-none : (D : ℕ → Bool) (s : S) (m : ℕ) → ((k : ℕ) → k < m → D k ≡ false) → after next works D s m ≡ s
-  unfolding after
+  after-none : (D : ℕ → Bool) (s : S) (m : ℕ) → ((k : ℕ) → k < m → D k ≡ false) → afterBegun next works D s m ≡ s
+  unfolding afterBegun
   after-none D s zero h = refl
   after-none D s (suc m) h = cond-false _ _ _ (h m (omega arith)) ∙ after-none D s m (λ k l. h k (omega arith))
 
@@ -1237,8 +1238,8 @@ module _ {S : Type 0} (next : S → Work → S) (answer : S → Work → ℕ) (l
       shut : (x : ℕ) → (ltb 0 0 || ltb x 0) ≡ false
       shut x = grind (arith, tells)
 
-  plant-from : (m : ℕ) → readTo next answer r a m .plant ≡ after next works (λ k. do? k && not (r k .sends)) (a .plant) m
-  unfolding readTo after
+  plant-from : (m : ℕ) → readTo next answer r a m .plant ≡ afterBegun next works (λ k. do? k && not (r k .sends)) (a .plant) m
+  unfolding readTo afterBegun
   plant-from zero = refl
   plant-from (suc m) = ap (λ p. cond (do? m && not (r m .sends)) (next p (works m)) p) (plant-from m)
 
