@@ -4,3 +4,4 @@ pub mod Alike
 pub mod Stepping
 pub mod Owned
 pub mod Ticking
+pub mod Readings
