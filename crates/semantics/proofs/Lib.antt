@@ -5,3 +5,4 @@ pub mod Stepping
 pub mod Owned
 pub mod Ticking
 pub mod Readings
+pub mod Runs

@@ -136,6 +136,24 @@ module _ (m : Model) where
   keep-taken (callRow c) a e = absurd (both-ways false refl e)
   keep-taken (sendRow s) a e = absurd (both-ways false refl e)
 
+  -- The words of a row.
+  pub record WordsAlike (x : Row) (a : Now S) (b : PlannedNow S) : Type 0 where
+    pub first : wordsOf m x a .first ≡ said (ltb 0 (asRow x .count)) (word1 (asRow x) (b .places))
+    pub second : wordsOf m x a .second ≡ said (ltb 1 (asRow x .count)) (word2 (asRow x) (b .places))
+    pub given : wordsOf m x a .given ≡ Some (given (leaves m) (guarded m) (asRow x) b)
+
+  words-same : (x : Row) (a : Now S) (b : PlannedNow S) → isKeep x ≡ false → Known x → NowAlike a b → WordsAlike x a b
+  unfolding Known
+  words-same (keepRow k) a b nk kn al = absurd (both-ways true nk refl)
+  words-same (callRow c) a b nk kn al = record
+    { first = first-same c (c .inputs) (a .places (c .station)) (b .places) (al .places (c .station))
+    ; second = second-same c (c .inputs) (a .places (c .station)) (b .places) (al .places (c .station))
+    ; given = ap Some (given-same c a b (kn c refl) al) }
+  words-same (sendRow s) a b nk kn al = record
+    { first = ap Some (word-same (a .places (s .station) (s .variable)) ∙ ap plannedWord (al .places (s .station) (s .variable)))
+    ; second = refl
+    ; given = ap Some (word-same (a .places (s .station) (s .variable)) ∙ ap plannedWord (al .places (s .station) (s .variable))) }
+
   module _ (h-cycle : ℕ) (rows : List Row) (ordered : Ordered h-cycle rows) (known : KnowsEach m rows) where
     abbrev r : ℕ → Planned
     r = rowsOf rows
@@ -264,3 +282,17 @@ module _ (m : Model) where
 
     pub performs-same : (start : S) (q k : ℕ) → k < n → performs m rows start q (nk + k) ≡ planned.performs (leaves m) (guarded m) (m .known) r n h-cycle (keepsOf rows) nk start q k
     performs-same start q k l = performed-same (rowAt rows (nk + k)) _ _ (not-keep k l) (before-alike start q k (omega arith))
+
+    pub words-alike : (start : S) (q k : ℕ) → k < n
+        → WordsAlike (rowAt rows (nk + k)) (reading.before m rows start q (nk + k)) (plannedTo (leaves m) (guarded m) r (planned.begins (leaves m) (guarded m) r n (keepsOf rows) nk (planned.afterCycles (leaves m) (guarded m) r n (keepsOf rows) nk start q)) k)
+    words-alike start q k l = words-same (rowAt rows (nk + k)) _ _ (not-keep k l) (known-row k) (before-alike start q k (omega arith))
+
+    -- Every call is known, as the schedule asks it.
+    known-as : (x : Row) → isKeep x ≡ false → Known x → asRow x .sends ≡ false → m .known (asRow x .st) (asRow x .work) (asRow x .count) ≡ true
+    unfolding Known
+    known-as (keepRow k) e kn s = absurd (both-ways true e refl)
+    known-as (callRow c) e kn s = kn c refl
+    known-as (sendRow c) e kn s = absurd (both-ways true s refl)
+
+    pub known-call : (k : ℕ) → k < n → r k .sends ≡ false → m .known (r k .st) (r k .work) (r k .count) ≡ true
+    known-call k l s = known-as (rowAt rows (nk + k)) (not-keep k l) (known-row k) s
