@@ -6,3 +6,4 @@ pub mod Owned
 pub mod Ticking
 pub mod Readings
 pub mod Runs
+pub mod Kept
