@@ -4,3 +4,6 @@ pub mod Alike
 pub mod Stepping
 pub mod Owned
 pub mod Ticking
+pub mod Readings
+pub mod Runs
+pub mod Kept

@@ -13,13 +13,14 @@ use Rattle.fault.specs.declared.refusal.Refusal.the-variants.{LimitReached}
 use Rattle.sheet.specs.declared.row.Head.{Head}
 use Rattle.sheet.specs.declared.row.Row.{Row}
 use Rattle.sheet.specs.declared.row.Row.the-variants.{Keep as keepRow, Call as callRow, Send as sendRow}
-use Rattle.sheet.specs.Rows.{rowAt, headWithin}
-use Rattle.judge.specs.Rules.{Rules, IsKeep}
+use Rattle.sheet.specs.Rows.{rowAt}
+use Rattle.judge.specs.Rules.{IsKeep}
 use Rattle.netcode.specs.declared.step.Step.{Step}
 use Rattle.netcode.specs.Rules.{firstBroken}
 use Rattle.plant.specs.Model.{Model}
 use Rattle.plant.specs.Fit.{KnowsEach}
 use Rattle.translate.specs.Translation.{translated, dateOf, endOf}
+use Rattle.translate.specs.Laws.{Sheet}
 use Rattle.semantics.specs.declared.state.Mark.{Mark}
 use Rattle.semantics.specs.declared.state.Request.{Request}
 use Rattle.semantics.specs.declared.state.Request.the-variants.{Tick, Rehearse, WordAt, MarkAt}
@@ -119,8 +120,8 @@ module _ (m : Model) (h : Head) (rows : List Row) (start : m .State) where
         → performs m rows start q n ≡ true → performs m rows start p k ≡ true
         → Occupies q n tick → Occupies p k tick → (q ≡ p) × (n ≡ k)
 
--- For every accepted sheet whose works the plant knows, and every state that the plant starts in.
+-- For every accepted sheet (its head is within its limits and counts its rows, and the rules of acceptance hold) whose
+-- works the plant knows, and every state that the plant starts in.
 abbrev pub Run-promise : Model → Type 0
 Run-promise m =
-    (h : Head) (rows : List Row) → headWithin h ≡ true → length rows ≡ h .rows → Rules h rows → KnowsEach m rows
-    → (start : m .State) → Promised m h rows start
+    (h : Head) (rows : List Row) → Sheet h rows → KnowsEach m rows → (start : m .State) → Promised m h rows start

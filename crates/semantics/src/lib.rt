@@ -1,6 +1,8 @@
+mod promise;
 mod state;
 mod worked;
 
+pub use promise::run_promise_stands;
 pub use state::Job;
 pub use state::Mark;
 pub use state::Message;
