@@ -1,5 +1,6 @@
 pub mod Dates
 pub mod Judging
 pub mod Lawfulness
+pub mod Lengths
 pub mod Maps
 pub mod Woken

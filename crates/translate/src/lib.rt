@@ -1,5 +1,6 @@
 mod laws;
 mod share;
+mod sizes;
 mod worked;
 
 pub use laws::programs_lawful;
