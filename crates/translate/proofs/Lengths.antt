@@ -167,3 +167,21 @@ module _ (cycle : ℕ) (rows : List Row) (p : ℕ) where
 
   pub program-length : length (programCode cycle rows p) ≡ address cycle rows p (openingLength cycle rows p) cycle
   program-length = code-length (opening cycle rows p) cycle ∙ ap (λ (o : ℕ). address cycle rows p o cycle) opening-length
+
+  pub opening-now : (x k : ℕ) → 0 < cycle → x ≡ firstDate cycle rows p 0 → x ≡ 0 → k ≡ length (preparation cycle rows p) → k ≡ openingLength cycle rows p
+  opening-now x k l e z f = f ∙ sym (ap (λ (b : Bool). length (preparation cycle rows p) + cond b 0 2) (zero-date l ∙ eq-eqb _ _ (sym e ∙ z)) ∙ add-zero _)
+
+  pub opening-later : (x k : ℕ) → 0 < cycle → x ≡ firstDate cycle rows p 0 → (x ≡ 0 → ⊥) → k ≡ length (preparation cycle rows p) → k + 2 ≡ openingLength cycle rows p
+  opening-later x k l e z f = ap (λ (j : ℕ). j + 2) f ∙ sym (ap (λ (b : Bool). length (preparation cycle rows p) + cond b 0 2) (zero-date l ∙ ne-eqb _ _ (λ q. z (e ∙ q))))
+
+  -- The blocks before the first date, and before a date at or after the next one.
+  pub block-first : (o x d : ℕ) → x ≡ firstDate cycle rows p 0 → o ≡ address cycle rows p o (min x d)
+  block-first o x d e = sym (address-skip o 0 (min x d) (omega arith) (omega arith) ∙ address-none o)
+
+  pub block-next : (o d x y k place : ℕ) → x < d → d ≤ cycle → y ≡ firstDate cycle rows p (suc x) → isDate cycle rows p x ≡ true
+      → k ≡ rowsLength cycle rows p x 0 (length rows) → place ≡ address cycle rows p o (min x d) → place + (k + 2) ≡ address cycle rows p o (min y d)
+  block-next o d x y k place l m e q f g =
+      let z : min x d ≡ x = omega arith in
+      let a = first-least cycle rows p (suc x) (length rows) (omega arith) in
+      ap (λ (j : ℕ). j + (k + 2)) (g ∙ ap (address cycle rows p o) z) ∙ address-more o x k q f
+      ∙ sym (address-skip o (suc x) (min y d) (omega arith) (omega arith))
