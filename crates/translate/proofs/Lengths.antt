@@ -125,14 +125,13 @@ module _ (cycle : ℕ) (rows : List Row) (p : ℕ) where
   code-more pre d q = ap (λ (b : List Step). codeTo cycle rows p pre d ++ b) (cond-true _ _ _ q)
 
   -- The lengths of the code.
-  pub tests-length : (ts : List Test) (b : ℕ) → length (testsCode cycle rows p ts b) ≡ length ts
-  unfolding testsCode
+  pub tests-length : (ts : List Test) (b : ℕ) → length (testsCode ts b) ≡ length ts
   tests-length [] b = refl
   tests-length (t ∷ ts) b = ap suc (tests-length ts b)
 
   pub row-length : (o d i b : ℕ) → length (rowCode cycle rows p o d i b) ≡ rowLength cycle rows p i
   row-length o d i b =
-      length-append (testsCode cycle rows p (testsIn (rowAt rows i)) (b + rowLength cycle rows p i)) (waitFor cycle rows p o d (endOf (rowAt rows i)) ∷ act p i (rowAt rows i) ∷ Halt ∷ [])
+      length-append (testsCode (testsIn (rowAt rows i)) (b + rowLength cycle rows p i)) (waitFor cycle rows p o d (endOf (rowAt rows i)) ∷ act p i (rowAt rows i) ∷ Halt ∷ [])
       ∙ ap (λ (k : ℕ). k + 3) (tests-length (testsIn (rowAt rows i)) (b + rowLength cycle rows p i))
 
   pub rows-length : (o d m i b : ℕ) → length (rowsCode cycle rows p o d i m b) ≡ rowsLength cycle rows p d i m + 2

@@ -164,8 +164,8 @@ module _ (cycle : ℕ) (rows : List Row) (p : ℕ) (ord : Ordered cycle rows) wh
   wait-same : (o d e : ℕ) → e ≤ cycle → waitFor cycle rows p o d e ≡ C (PlannedStep.future (wake h e - d) (target h o (wake h e)))
   wait-same o d e l = rw (first-wake e l, address-same o (wake h e))
 
-  tests-code : (ts : List Test) (b : ℕ) → testsCode cycle rows p ts b ≡ map C (testCode h (asTests ts) b)
-  unfolding testsCode testCode
+  tests-code : (ts : List Test) (b : ℕ) → testsCode ts b ≡ map C (testCode h (asTests ts) b)
+  unfolding testCode
   tests-code [] b = refl
   tests-code (t ∷ ts) b = ap₂ (λ (r : Relation) (c : List Step). testStep (t .variable) r (t .word) b ∷ c) (sym (relation-same (t .relation))) (tests-code ts b)
 

@@ -49,6 +49,11 @@ act p i (keepRow k) = Clear
 act p i (callRow c) = Call i (c .work) (c .inputs) (c .output) (c .duration)
 act p i (sendRow s) = cond (eqb (s .station) (stationOf p)) (Send i (s .variable) (s .duration)) (Receive (s .variable) (s .duration))
 
+-- TESTs that go to address b where they fail.
+abbrev pub testsCode : List Test → ℕ → List Step
+testsCode [] b = []
+testsCode (t ∷ ts) b = testStep (t .variable) (t .relation) (t .word) b ∷ testsCode ts b
+
 -- KEEP and GIVE of row n, if it is a keep row of program p's station; its cell has the row's own number.
 abbrev pub keepStep : ℕ → ℕ → Row → List Step
 keepStep p n (keepRow k) = cond (eqb (k .station) (stationOf p)) (Keep (k .taken) n ∷ []) []
@@ -106,11 +111,6 @@ module _ (cycle : ℕ) (rows : List Row) (p : ℕ) where
   -- cycle, at address 0.
   abbrev pub waitFor : ℕ → ℕ → ℕ → Step
   waitFor o d end = Future (firstDate end - d) (cond (ltb (firstDate end) cycle) (address o (firstDate end)) 0)
-
-  -- A failed test goes to address b.
-  unfoldable pub testsCode : List Test → ℕ → List Step
-  testsCode [] b = []
-  testsCode (t ∷ ts) b = testStep (t .variable) (t .relation) (t .word) b ∷ testsCode ts b
 
   -- The code of row i, which stands at address b: its failed tests go to what stands after it.
   abbrev pub rowCode : ℕ → ℕ → ℕ → ℕ → List Step

@@ -1,4 +1,5 @@
 mod laws;
+mod put;
 mod share;
 mod sizes;
 mod worked;

@@ -1,0 +1,28 @@
+use mathlib.Core.List.{List, [], _∷_, _++_}
+use Prim.Native.Nat.{ℕ, _+_, _≤_, _<_}
+use lib.ListN.{length, set, drop}
+use Rattle.std.specs.Joined.{joined}
+use Rattle.sheet.specs.declared.row.Row.{Row}
+use Rattle.sheet.specs.Rows.{rowAt}
+use Rattle.netcode.specs.declared.step.Step.{Step}
+use Rattle.translate.specs.Translation.{endOf}
+
+-- The elements of `new` in the places of a list from `at` on, so far as it has them.
+abbrev pub stored : {X : Type 0} → List X → ℕ → List X → List X
+stored old at [] = old
+stored old at (x ∷ new) = stored (set old at x) (at + 1) new
+
+-- All steps of the programs, one program after the other.
+abbrev pub stepsOf : List (List Step) → List Step
+stepsOf programs = joined (λ p. p) programs
+
+-- A list in front of another, of which the rest stays.
+abbrev pub laidOn : {X : Type 0} → List X → List X → List X
+laidOn new old = new ++ drop (length new) old
+
+-- The limits of a sheet that the code counts on.
+pub record Bounded (cycle : ℕ) (rows : List Row) : Type 0 where
+  pub few : length rows ≤ 128
+  pub long : 0 < cycle
+  pub short : cycle ≤ 65535
+  pub inside : (i : ℕ) → i < length rows → endOf (rowAt rows i) ≤ cycle
