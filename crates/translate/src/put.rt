@@ -133,3 +133,35 @@ fn put_row(steps: &mut [Step], at: usize, program: u32, number: u32, row: Row, w
     steps[next + 2] = Step::Halt;
     next + 3
 }
+
+// The code of the row at `i`, if it is the program's and has that date. The program begins at `base`.
+fn put_due(rows: &[Row], cycle: u32, program: u32, opening: usize, date: u32, i: usize, steps: &mut [Step], base: usize, at: usize) -> usize
+    requires bounded { ⌜ Bounded cycle (now rows) ⌝ }
+    requires opened { ⌜ opening ≤ 259 ⌝ }
+    requires row { ⌜ i < length (now rows) ⌝ }
+    requires begun { ⌜ base ≤ at ⌝ }
+    requires near { ⌜ at ≤ base + 100000000 ⌝ }
+    requires room { ⌜ at + cond (isDue cycle (now rows) program date i) (rowLength cycle (now rows) program i) 0 ≤ length (now steps) ⌝ }
+    ensures list { λ _. ⌜ now (steps .exit) ≡ cond (isDue cycle (now (rows .entry)) program date i) (stored (now (steps .entry)) at (rowCode cycle (now (rows .entry)) program opening date i (at - base))) (now (steps .entry)) ⌝ }
+    ensures end { λ r. ⌜ r ≡ at + cond (isDue cycle (now (rows .entry)) program date i) (rowLength cycle (now (rows .entry)) program i) 0 ⌝ }
+{
+    let row = rows[i];
+    if is_of(program, row) && date_of(row) == date {
+        let wait = wait_step(rows, cycle, program, opening, date, end_of(row));
+        let to = (at - base + row_length(row)) as u32;
+        put_row(steps, at, program, i as u32, row, wait, to)
+    } else {
+        at
+    }
+}
+
+// A wait and HALT.
+fn put_wait(steps: &mut [Step], at: usize, wait: Step) -> usize
+    requires { ⌜ at + 2 ≤ length (now steps) ⌝ }
+    ensures list { λ _. ⌜ now (steps .exit) ≡ stored (now (steps .entry)) at (wait ∷ Halt ∷ []) ⌝ }
+    ensures end { λ r. ⌜ r ≡ at + 2 ⌝ }
+{
+    steps[at] = wait;
+    steps[at + 1] = Step::Halt;
+    at + 2
+}
