@@ -3,4 +3,5 @@ pub mod Judging
 pub mod Lawfulness
 pub mod Lengths
 pub mod Maps
+pub mod Puts
 pub mod Woken

@@ -1,3 +1,4 @@
+mod blocks;
 mod laws;
 mod put;
 mod share;

@@ -135,7 +135,7 @@ fn put_row(steps: &mut [Step], at: usize, program: u32, number: u32, row: Row, w
 }
 
 // The code of the row at `i`, if it is the program's and has that date. The program begins at `base`.
-fn put_due(rows: &[Row], cycle: u32, program: u32, opening: usize, date: u32, i: usize, steps: &mut [Step], base: usize, at: usize) -> usize
+pub fn put_due(rows: &[Row], cycle: u32, program: u32, opening: usize, date: u32, i: usize, steps: &mut [Step], base: usize, at: usize) -> usize
     requires bounded { ⌜ Bounded cycle (now rows) ⌝ }
     requires opened { ⌜ opening ≤ 259 ⌝ }
     requires row { ⌜ i < length (now rows) ⌝ }
@@ -156,7 +156,7 @@ fn put_due(rows: &[Row], cycle: u32, program: u32, opening: usize, date: u32, i:
 }
 
 // A wait and HALT.
-fn put_wait(steps: &mut [Step], at: usize, wait: Step) -> usize
+pub fn put_wait(steps: &mut [Step], at: usize, wait: Step) -> usize
     requires { ⌜ at + 2 ≤ length (now steps) ⌝ }
     ensures list { λ _. ⌜ now (steps .exit) ≡ stored (now (steps .entry)) at (wait ∷ Halt ∷ []) ⌝ }
     ensures end { λ r. ⌜ r ≡ at + 2 ⌝ }
