@@ -29,34 +29,34 @@ module _ (cycle : ℕ) (rows : List Row) (p : ℕ) where
       let y : 0 + i ≡ i = omega arith in
       ap₂ (λ (a b : ℕ). a + b) e f ∙ sym (ap (rowsLength cycle rows p d 0) z ∙ rows-push cycle rows p d i 0 ∙ ap (λ (k : ℕ). rowsLength cycle rows p d 0 i + cond (isDue cycle rows p d k) (rowLength cycle rows p k) 0) y)
 
-  pub keeps-none : (length (keepsTo cycle rows p 0) ≡ 0) × (length (givesTo cycle rows p 0) ≡ 0)
+  pub keeps-none : (length (keepsTo rows p 0) ≡ 0) × (length (givesTo rows p 0) ≡ 0)
   unfolding keepsTo givesTo
   keeps-none = (refl, refl)
 
-  pub keeps-more : (n s k : ℕ) → s ≡ length (keepsTo cycle rows p n) → k ≡ length (keepStep p n (rowAt rows n)) → s + k ≡ length (keepsTo cycle rows p (n + 1))
+  pub keeps-more : (n s k : ℕ) → s ≡ length (keepsTo rows p n) → k ≡ length (keepStep p n (rowAt rows n)) → s + k ≡ length (keepsTo rows p (n + 1))
   unfolding keepsTo
   keeps-more n s k e f =
       let z : n + 1 ≡ suc n = omega arith in
-      ap₂ (λ (a b : ℕ). a + b) e f ∙ sym (ap (λ (m : ℕ). length (keepsTo cycle rows p m)) z ∙ length-append (keepsTo cycle rows p n) _)
+      ap₂ (λ (a b : ℕ). a + b) e f ∙ sym (ap (λ (m : ℕ). length (keepsTo rows p m)) z ∙ length-append (keepsTo rows p n) _)
 
-  pub gives-more : (n s k : ℕ) → s ≡ length (givesTo cycle rows p n) → k ≡ length (giveStep p n (rowAt rows n)) → s + k ≡ length (givesTo cycle rows p (n + 1))
+  pub gives-more : (n s k : ℕ) → s ≡ length (givesTo rows p n) → k ≡ length (giveStep p n (rowAt rows n)) → s + k ≡ length (givesTo rows p (n + 1))
   unfolding givesTo
   gives-more n s k e f =
       let z : n + 1 ≡ suc n = omega arith in
-      ap₂ (λ (a b : ℕ). a + b) e f ∙ sym (ap (λ (m : ℕ). length (givesTo cycle rows p m)) z ∙ length-append (givesTo cycle rows p n) _)
+      ap₂ (λ (a b : ℕ). a + b) e f ∙ sym (ap (λ (m : ℕ). length (givesTo rows p m)) z ∙ length-append (givesTo rows p n) _)
 
   -- How many steps prepare a station that has k keep rows.
-  pub preparation-length : (k : ℕ) → k ≡ length (keepsTo cycle rows p (length rows)) → k ≡ length (givesTo cycle rows p (length rows))
-      → length (preparation cycle rows p) ≡ cond (isLine p) 0 (2 * k + 1)
+  pub preparation-length : (k : ℕ) → k ≡ length (keepsTo rows p (length rows)) → k ≡ length (givesTo rows p (length rows))
+      → length (preparation rows p) ≡ cond (isLine p) 0 (2 * k + 1)
   preparation-length k e f = go (isLine p)
     where
       K : List Step
-      K = keepsTo cycle rows p (length rows)
+      K = keepsTo rows p (length rows)
       G : List Step
-      G = givesTo cycle rows p (length rows)
-      go : (b : Bool) → length (cond b [] (keepsTo cycle rows p (length rows) ++ (Clear ∷ givesTo cycle rows p (length rows)))) ≡ cond b 0 (2 * k + 1)
+      G = givesTo rows p (length rows)
+      go : (b : Bool) → length (cond b [] (keepsTo rows p (length rows) ++ (Clear ∷ givesTo rows p (length rows)))) ≡ cond b 0 (2 * k + 1)
       go true = refl
-      go false = let l = length-append (keepsTo cycle rows p (length rows)) (Clear ∷ givesTo cycle rows p (length rows)) in omega arith
+      go false = let l = length-append (keepsTo rows p (length rows)) (Clear ∷ givesTo rows p (length rows)) in omega arith
 
   -- 0 is a date exactly if it is the first.
   pub zero-date : 0 < cycle → isDate cycle rows p 0 ≡ eqb (firstDate cycle rows p 0) 0
@@ -158,7 +158,7 @@ module _ (cycle : ℕ) (rows : List Row) (p : ℕ) where
       go false = refl
 
   pub opening-length : length (opening cycle rows p) ≡ openingLength cycle rows p
-  opening-length = length-append (preparation cycle rows p) _ ∙ ap (λ (k : ℕ). length (preparation cycle rows p) + k) (go (isDate cycle rows p 0))
+  opening-length = length-append (preparation rows p) _ ∙ ap (λ (k : ℕ). length (preparation rows p) + k) (go (isDate cycle rows p 0))
     where
       go : (z : Bool) → length (cond z [] (waitFor cycle rows p (openingLength cycle rows p) 0 0 ∷ Halt ∷ [])) ≡ cond z 0 2
       go true = refl
@@ -167,11 +167,11 @@ module _ (cycle : ℕ) (rows : List Row) (p : ℕ) where
   pub program-length : length (programCode cycle rows p) ≡ address cycle rows p (openingLength cycle rows p) cycle
   program-length = code-length (opening cycle rows p) cycle ∙ ap (λ (o : ℕ). address cycle rows p o cycle) opening-length
 
-  pub opening-now : (x k : ℕ) → 0 < cycle → x ≡ firstDate cycle rows p 0 → x ≡ 0 → k ≡ length (preparation cycle rows p) → k ≡ openingLength cycle rows p
-  opening-now x k l e z f = f ∙ sym (ap (λ (b : Bool). length (preparation cycle rows p) + cond b 0 2) (zero-date l ∙ eq-eqb _ _ (sym e ∙ z)) ∙ add-zero _)
+  pub opening-now : (x k : ℕ) → 0 < cycle → x ≡ firstDate cycle rows p 0 → x ≡ 0 → k ≡ length (preparation rows p) → k ≡ openingLength cycle rows p
+  opening-now x k l e z f = f ∙ sym (ap (λ (b : Bool). length (preparation rows p) + cond b 0 2) (zero-date l ∙ eq-eqb _ _ (sym e ∙ z)) ∙ add-zero _)
 
-  pub opening-later : (x k : ℕ) → 0 < cycle → x ≡ firstDate cycle rows p 0 → (x ≡ 0 → ⊥) → k ≡ length (preparation cycle rows p) → k + 2 ≡ openingLength cycle rows p
-  opening-later x k l e z f = ap (λ (j : ℕ). j + 2) f ∙ sym (ap (λ (b : Bool). length (preparation cycle rows p) + cond b 0 2) (zero-date l ∙ ne-eqb _ _ (λ q. z (e ∙ q))))
+  pub opening-later : (x k : ℕ) → 0 < cycle → x ≡ firstDate cycle rows p 0 → (x ≡ 0 → ⊥) → k ≡ length (preparation rows p) → k + 2 ≡ openingLength cycle rows p
+  opening-later x k l e z f = ap (λ (j : ℕ). j + 2) f ∙ sym (ap (λ (b : Bool). length (preparation rows p) + cond b 0 2) (zero-date l ∙ ne-eqb _ _ (λ q. z (e ∙ q))))
 
   -- The blocks before the first date, and before a date at or after the next one.
   pub block-first : (o x d : ℕ) → x ≡ firstDate cycle rows p 0 → o ≡ address cycle rows p o (min x d)

@@ -59,8 +59,8 @@ fn keep_length(program: u32, row: Row) -> usize
 // How many keep rows the program's station has.
 fn keep_count(rows: &[Row], program: u32) -> usize
     requires { ⌜ length (now rows) ≤ 128 ⌝ }
-    ensures keeps { λ r. ⌜ ((cycle : ℕ) → r ≡ length (keepsTo cycle (now (rows .entry)) program (length (now (rows .entry))))) ⌝ }
-    ensures gives { λ r. ⌜ ((cycle : ℕ) → r ≡ length (givesTo cycle (now (rows .entry)) program (length (now (rows .entry))))) ⌝ }
+    ensures keeps { λ r. ⌜ r ≡ length (keepsTo (now (rows .entry)) program (length (now (rows .entry)))) ⌝ }
+    ensures gives { λ r. ⌜ r ≡ length (givesTo (now (rows .entry)) program (length (now (rows .entry)))) ⌝ }
     ensures few { λ r. ⌜ r ≤ 128 ⌝ }
 {
     let mut count = 0;
@@ -73,7 +73,7 @@ fn keep_count(rows: &[Row], program: u32) -> usize
 // How many steps prepare the program's station.
 fn preparation_length(rows: &[Row], program: u32) -> usize
     requires { ⌜ length (now rows) ≤ 128 ⌝ }
-    ensures length { λ r. ⌜ ((cycle : ℕ) → r ≡ length (preparation cycle (now (rows .entry)) program)) ⌝ }
+    ensures length { λ r. ⌜ r ≡ length (preparation (now (rows .entry)) program) ⌝ }
     ensures few { λ r. ⌜ r ≤ 257 ⌝ }
 {
     if is_line(program) {

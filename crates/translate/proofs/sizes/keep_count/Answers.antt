@@ -7,7 +7,7 @@ use Rattle.translate.proofs.Lengths.{keeps-none, keeps-more, gives-more}
 use Rattle.translate.proofs.sizes.keep_count.Needs as need
 
 pub loop-i-holds : need.loop-i-holds
-loop-i-holds c = let z = λ (cycle : ℕ). keeps-none cycle (c .args .rows .now) (c .args .program) in ((λ cycle. sym (z cycle .0)), (λ cycle. sym (z cycle .1)), omega arith)
+loop-i-holds c = let z = keeps-none 0 (c .args .rows .now) (c .args .program) in (sym (z .0), sym (z .1), omega arith)
 
 pub loop-i-again : need.loop-i-again
 loop-i-again c =
@@ -15,8 +15,8 @@ loop-i-again c =
     let p = c .args .program in
     let i = c .loop-i .i in
     let k = c .keep-length-count .ensures in (
-      (λ cycle. keeps-more cycle rows p i (c .loop-i .count) _ (c .loop-i .inv .0 cycle) (k .keep i)),
-      (λ cycle. gives-more cycle rows p i (c .loop-i .count) _ (c .loop-i .inv .1 cycle) (k .give i)),
+      keeps-more 0 rows p i (c .loop-i .count) _ (c .loop-i .inv .0) (k .keep i),
+      gives-more 0 rows p i (c .loop-i .count) _ (c .loop-i .inv .1) (k .give i),
       omega (arith, c .loop-i .inv .2, k .few),
     )
 
@@ -24,6 +24,6 @@ pub returns : need.returns
 returns c =
     let n : c .loop-i .i ≡ length (c .args .rows .now) = omega arith in
     record
-    { keeps = λ cycle. c .loop-i .inv .0 cycle ∙ ap (λ (k : ℕ). length (keepsTo cycle (c .args .rows .now) (c .args .program) k)) n
-    ; gives = λ cycle. c .loop-i .inv .1 cycle ∙ ap (λ (k : ℕ). length (givesTo cycle (c .args .rows .now) (c .args .program) k)) n
+    { keeps = c .loop-i .inv .0 ∙ ap (λ (k : ℕ). length (keepsTo (c .args .rows .now) (c .args .program) k)) n
+    ; gives = c .loop-i .inv .1 ∙ ap (λ (k : ℕ). length (givesTo (c .args .rows .now) (c .args .program) k)) n
     ; few = omega (arith, c .loop-i .inv .2) }

@@ -7,6 +7,6 @@ use Rattle.translate.proofs.sizes.keep_count.Given as given
 -- The keep rows so far.
 abbrev pub Inv-loop-i : given.InvT-loop-i
 Inv-loop-i l =
-    ((cycle : ℕ) → l .count ≡ length (keepsTo cycle (l .rows) (l .program) (l .i)))
-    × ((cycle : ℕ) → l .count ≡ length (givesTo cycle (l .rows) (l .program) (l .i)))
+    (l .count ≡ length (keepsTo (l .rows) (l .program) (l .i)))
+    × (l .count ≡ length (givesTo (l .rows) (l .program) (l .i)))
     × (l .count ≤ l .i)

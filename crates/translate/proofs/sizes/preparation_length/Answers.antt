@@ -9,5 +9,5 @@ pub returns-else-is-line : need.returns-else-is-line
 returns-else-is-line c =
     let k = c .keep-count .ensures in
     record
-    { length = λ cycle. sym (preparation-length cycle (c .args .rows .now) (c .args .program) (c .keep-count .result) (k .keeps cycle) (k .gives cycle) ∙ cond-false (isLine (c .args .program)) _ _ (sym (c .if-is-line .ensures tt)))
+    { length = sym (preparation-length 0 (c .args .rows .now) (c .args .program) (c .keep-count .result) (k .keeps) (k .gives) ∙ cond-false (isLine (c .args .program)) _ _ (sym (c .if-is-line .ensures tt)))
     ; few = omega (arith, k .few) }
