@@ -15,7 +15,7 @@ use Rattle.sheet.specs.declared.row.Row.the-variants.{Keep as keepRow, Call as 
 use Rattle.sheet.specs.Rows.{testsOf, rowAt}
 use Rattle.netcode.specs.declared.step.Step.{Step}
 use Rattle.translate.specs.Stores.{stored}
-use Rattle.translate.specs.Translation.{testsIn, isDue, isDate, firstDate, rowLength, rowsLength, address, rowCode, tailCode, rowsCode, codeTo}
+use Rattle.translate.specs.Translation.{testsIn, isDue, isDate, firstDate, rowLength, rowsLength, address, rowCode, tailCode, rowsCode, codeTo, keepStep, giveStep, keepsTo, givesTo}
 use Rattle.translate.proofs.Dates.{first-least}
 use Rattle.translate.proofs.Lengths.{row-length, code-length, code-skip, code-more, code-none, address-none, address-more, address-skip}
 
@@ -118,3 +118,54 @@ module _ (cycle : ℕ) (rows : List Row) (p : ℕ) where
   address-next o x y l e q =
       let a = first-least cycle rows p (suc x) (length rows) l in
       address-skip cycle rows p o (suc x) y (omega arith) (omega arith) ∙ sym (address-more cycle rows p o x _ q refl)
+
+-- KEEPs and GIVEs.
+pub keeps-none : (rows : List Row) (p : ℕ) → keepsTo rows p 0 ≡ []
+unfolding keepsTo
+keeps-none rows p = refl
+
+pub gives-none : (rows : List Row) (p : ℕ) → givesTo rows p 0 ≡ []
+unfolding givesTo
+gives-none rows p = refl
+
+pub keeps-step : (rows : List Row) (p i : ℕ)
+    → ((old : List Step) (at : ℕ) → stored old at (keepsTo rows p (i + 1)) ≡ stored (stored old at (keepsTo rows p i)) (at + length (keepsTo rows p i)) (keepStep p i (rowAt rows i)))
+    × (length (keepsTo rows p (i + 1)) ≡ length (keepsTo rows p i) + length (keepStep p i (rowAt rows i)))
+unfolding keepsTo
+keeps-step rows p i =
+    let z : i + 1 ≡ suc i = omega arith in
+    let e : keepsTo rows p (i + 1) ≡ keepsTo rows p i ++ keepStep p i (rowAt rows i) = ap (keepsTo rows p) z in
+    ((λ old at. ap (stored old at) e ∙ stored-append old at (keepsTo rows p i) (keepStep p i (rowAt rows i))), ap length e ∙ length-append (keepsTo rows p i) (keepStep p i (rowAt rows i)))
+
+pub gives-step : (rows : List Row) (p i : ℕ)
+    → ((old : List Step) (at : ℕ) → stored old at (givesTo rows p (i + 1)) ≡ stored (stored old at (givesTo rows p i)) (at + length (givesTo rows p i)) (giveStep p i (rowAt rows i)))
+    × (length (givesTo rows p (i + 1)) ≡ length (givesTo rows p i) + length (giveStep p i (rowAt rows i)))
+unfolding givesTo
+gives-step rows p i =
+    let z : i + 1 ≡ suc i = omega arith in
+    let e : givesTo rows p (i + 1) ≡ givesTo rows p i ++ giveStep p i (rowAt rows i) = ap (givesTo rows p) z in
+    ((λ old at. ap (stored old at) e ∙ stored-append old at (givesTo rows p i) (giveStep p i (rowAt rows i))), ap length e ∙ length-append (givesTo rows p i) (giveStep p i (rowAt rows i)))
+
+keeps-add : (rows : List Row) (p i k : ℕ) → length (keepsTo rows p i) ≤ length (keepsTo rows p (i + k))
+keeps-add rows p i zero = let e = ap (λ (j : ℕ). length (keepsTo rows p j)) (add-zero i) in omega arith
+keeps-add rows p i (suc k) =
+    let z : i + suc k ≡ i + k + 1 = omega arith in
+    let e = ap (λ (j : ℕ). length (keepsTo rows p j)) z in
+    let a = keeps-add rows p i k in
+    let b = keeps-step rows p (i + k) .1 in
+    omega arith
+
+pub keeps-up : (rows : List Row) (p i n : ℕ) → i ≤ n → length (keepsTo rows p i) ≤ length (keepsTo rows p n)
+keeps-up rows p i n l = let a = keeps-add rows p i (n - i) in let q : i + (n - i) ≡ n = omega arith in let b = ap (λ (j : ℕ). length (keepsTo rows p j)) q in omega arith
+
+gives-add : (rows : List Row) (p i k : ℕ) → length (givesTo rows p i) ≤ length (givesTo rows p (i + k))
+gives-add rows p i zero = let e = ap (λ (j : ℕ). length (givesTo rows p j)) (add-zero i) in omega arith
+gives-add rows p i (suc k) =
+    let z : i + suc k ≡ i + k + 1 = omega arith in
+    let e = ap (λ (j : ℕ). length (givesTo rows p j)) z in
+    let a = gives-add rows p i k in
+    let b = gives-step rows p (i + k) .1 in
+    omega arith
+
+pub gives-up : (rows : List Row) (p i n : ℕ) → i ≤ n → length (givesTo rows p i) ≤ length (givesTo rows p n)
+gives-up rows p i n l = let a = gives-add rows p i (n - i) in let q : i + (n - i) ≡ n = omega arith in let b = ap (λ (j : ℕ). length (givesTo rows p j)) q in omega arith

@@ -1,5 +1,6 @@
 mod blocks;
 mod laws;
+mod opening;
 mod put;
 mod share;
 mod sizes;
