@@ -14,8 +14,9 @@ use Rattle.sheet.specs.declared.row.Row.{Row}
 use Rattle.sheet.specs.declared.row.Row.the-variants.{Keep as keepRow, Call as callRow, Send as sendRow}
 use Rattle.sheet.specs.Rows.{testsOf, rowAt}
 use Rattle.netcode.specs.declared.step.Step.{Step}
+use Rattle.netcode.specs.declared.step.Step.the-variants.{Halt, Clear}
 use Rattle.translate.specs.Stores.{stored}
-use Rattle.translate.specs.Translation.{testsIn, isDue, isDate, firstDate, rowLength, rowsLength, address, rowCode, tailCode, rowsCode, codeTo, keepStep, giveStep, keepsTo, givesTo}
+use Rattle.translate.specs.Translation.{testsIn, isDue, isDate, firstDate, rowLength, rowsLength, address, rowCode, tailCode, rowsCode, codeTo, keepStep, giveStep, keepsTo, givesTo, isLine, waitFor, preparation, opening, openingLength}
 use Rattle.translate.proofs.Dates.{first-least}
 use Rattle.translate.proofs.Lengths.{row-length, code-length, code-skip, code-more, code-none, address-none, address-more, address-skip}
 
@@ -169,3 +170,24 @@ gives-add rows p i (suc k) =
 
 pub gives-up : (rows : List Row) (p i n : ℕ) → i ≤ n → length (givesTo rows p i) ≤ length (givesTo rows p n)
 gives-up rows p i n l = let a = gives-add rows p i (n - i) in let q : i + (n - i) ≡ n = omega arith in let b = ap (λ (j : ℕ). length (givesTo rows p j)) q in omega arith
+
+-- The preparation.
+pub prepared-line : (rows : List Row) (p : ℕ) → isLine p ≡ true → preparation rows p ≡ []
+prepared-line rows p e = cond-true _ _ _ e
+
+pub prepared-work : (rows : List Row) (p : ℕ) → isLine p ≡ false
+    → (preparation rows p ≡ keepsTo rows p (length rows) ++ (Clear ∷ givesTo rows p (length rows)))
+    × (length (preparation rows p) ≡ length (keepsTo rows p (length rows)) + 1 + length (givesTo rows p (length rows)))
+prepared-work rows p e =
+    let f : preparation rows p ≡ keepsTo rows p (length rows) ++ (Clear ∷ givesTo rows p (length rows)) = cond-false _ _ _ e in
+    let l = length-append (keepsTo rows p (length rows)) (Clear ∷ givesTo rows p (length rows)) in
+    (f, ap length f ∙ omega arith)
+
+-- The opening.
+pub opened-now : (cycle : ℕ) (rows : List Row) (p : ℕ) → isDate cycle rows p 0 ≡ true → (opening cycle rows p ≡ preparation rows p) × (openingLength cycle rows p ≡ length (preparation rows p))
+opened-now cycle rows p e = (ap (λ (x : List Step). preparation rows p ++ x) (cond-true _ _ _ e) ∙ append-nil _, ap (λ (k : ℕ). length (preparation rows p) + k) (cond-true _ _ _ e) ∙ add-zero _)
+
+pub opened-later : (cycle : ℕ) (rows : List Row) (p : ℕ) → isDate cycle rows p 0 ≡ false
+    → (opening cycle rows p ≡ preparation rows p ++ (waitFor cycle rows p (openingLength cycle rows p) 0 0 ∷ Halt ∷ []))
+    × (openingLength cycle rows p ≡ length (preparation rows p) + 2)
+opened-later cycle rows p e = (ap (λ (x : List Step). preparation rows p ++ x) (cond-false _ _ _ e), ap (λ (k : ℕ). length (preparation rows p) + k) (cond-false _ _ _ e))
