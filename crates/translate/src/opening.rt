@@ -11,6 +11,7 @@ use crate::put::wait_step;
 use crate::share::is_line;
 use crate::share::next_date;
 use crate::share::station;
+use crate::sizes::opening_length;
 use netcode::Step;
 use sheet::Row;
 
@@ -129,4 +130,16 @@ fn put_opening(rows: &[Row], cycle: u32, program: u32, opening: usize, steps: &m
     }
     let wait = wait_step(rows, cycle, program, opening, 0, 0);
     put_wait(steps, at, wait)
+}
+
+// A whole program, from `base` on.
+pub fn put_program(rows: &[Row], cycle: u32, program: u32, steps: &mut [Step], base: usize) -> usize
+    requires bounded { ⌜ Bounded cycle (now rows) ⌝ }
+    requires room { ⌜ base + length (programCode cycle (now rows) program) ≤ length (now steps) ⌝ }
+    ensures list { λ _. ⌜ now (steps .exit) ≡ stored (now (steps .entry)) base (programCode cycle (now (rows .entry)) program) ⌝ }
+    ensures end { λ r. ⌜ r ≡ base + length (programCode cycle (now (rows .entry)) program) ⌝ }
+{
+    let opening = opening_length(rows, cycle, program);
+    put_opening(rows, cycle, program, opening, steps, base);
+    put_blocks(rows, cycle, program, opening, steps, base)
 }
