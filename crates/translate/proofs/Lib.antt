@@ -1,4 +1,5 @@
 pub mod Dates
+pub mod Fills
 pub mod Judging
 pub mod Lawfulness
 pub mod Lengths

@@ -1,11 +1,13 @@
-use mathlib.Core.List.{List, [], _∷_, _++_}
+use mathlib.Core.List.{List, [], _∷_, _++_, map}
 use Prim.Native.Nat.{ℕ, _+_, _≤_, _<_}
-use lib.ListN.{length, set, drop}
+use lib.ListN.{length, set, drop, replicate}
 use Rattle.std.specs.Joined.{joined}
+use Rattle.sheet.specs.declared.row.Head.{Head}
 use Rattle.sheet.specs.declared.row.Row.{Row}
 use Rattle.sheet.specs.Rows.{rowAt}
 use Rattle.netcode.specs.declared.step.Step.{Step}
-use Rattle.translate.specs.Translation.{endOf}
+use Rattle.netcode.specs.declared.step.Layout.{Layout}
+use Rattle.translate.specs.Translation.{endOf, translated}
 
 -- The elements of `new` in the places of a list from `at` on, so far as it has them.
 abbrev pub stored : {X : Type 0} → List X → ℕ → List X → List X
@@ -26,3 +28,11 @@ pub record Bounded (cycle : ℕ) (rows : List Row) : Type 0 where
   pub long : 0 < cycle
   pub short : cycle ≤ 65535
   pub inside : (i : ℕ) → i < length rows → endOf (rowAt rows i) ≤ cycle
+
+-- How many steps the programs of a sheet have.
+abbrev pub needed : Head → List Row → ℕ
+needed h rows = length (stepsOf (translated h rows))
+
+-- How a list of steps is cut into the programs of a sheet that stand at its front.
+abbrev pub layoutFor : Head → List Row → Layout
+layoutFor h rows = record { stations = h .stations; lengths = laidOn (map length (translated h rows)) (replicate 16 0) }

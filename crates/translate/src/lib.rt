@@ -1,4 +1,5 @@
 mod blocks;
+mod fill;
 mod laws;
 mod opening;
 mod put;
