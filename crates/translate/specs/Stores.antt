@@ -2,6 +2,10 @@ use mathlib.Core.List.{List, [], _∷_, _++_, map}
 use Prim.Native.Nat.{ℕ, _+_, _≤_, _<_}
 use lib.ListN.{length, set, drop, replicate}
 use Rattle.std.specs.Joined.{joined}
+use Rattle.fault.specs.declared.place.BytesPlace.{BytesPlace}
+use Rattle.fault.specs.declared.place.BytesPlace.the-variants.{Needed}
+use Rattle.fault.specs.declared.refusal.Refusal.the-variants.{TooShort}
+use Rattle.fault.specs.declared.refusal.Fault.{Fault}
 use Rattle.sheet.specs.declared.row.Head.{Head}
 use Rattle.sheet.specs.declared.row.Row.{Row}
 use Rattle.sheet.specs.Rows.{rowAt}
@@ -36,3 +40,7 @@ needed h rows = length (stepsOf (translated h rows))
 -- How a list of steps is cut into the programs of a sheet that stand at its front.
 abbrev pub layoutFor : Head → List Row → Layout
 layoutFor h rows = record { stations = h .stations; lengths = laidOn (map length (translated h rows)) (replicate 16 0) }
+
+-- What is answered where the list is too short: how many steps are needed.
+abbrev pub noRoom : Head → List Row → Fault BytesPlace
+noRoom h rows = record { refusal = TooShort; place = Needed (needed h rows) }

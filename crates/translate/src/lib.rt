@@ -5,6 +5,7 @@ mod opening;
 mod put;
 mod share;
 mod sizes;
+mod stage;
 mod worked;
 
 pub use laws::programs_lawful;
