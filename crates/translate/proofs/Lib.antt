@@ -5,4 +5,5 @@ pub mod Lawfulness
 pub mod Lengths
 pub mod Maps
 pub mod Puts
+pub mod Staged
 pub mod Woken

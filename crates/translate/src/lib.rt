@@ -10,4 +10,6 @@ mod worked;
 
 pub use laws::programs_lawful;
 pub use laws::turns_stand;
+pub use stage::Translated;
+pub use stage::translate;
 pub use worked::worked_programs;

@@ -1,0 +1,24 @@
+use mathlib.Core.Path.{_≡_, sym, ap, ap₂, _∙_}
+use mathlib.Core.List.{List}
+use Prim.Native.Nat.{ℕ}
+use native.Mathlib.Omega.{arith}
+use lib.ListN.{length}
+use denote.Ref.{now}
+use Rattle.std.specs.Of.Vec.{vec-len, vec-items}
+use Rattle.std.proofs.shelf.Lists.{refilled-is}
+use Rattle.sheet.specs.declared.row.Head.{Head}
+use Rattle.sheet.specs.declared.row.Row.{Row}
+use Rattle.stages.specs.Views.{acceptedHead, acceptedRows}
+use Rattle.translate.proofs.Staged.{laid-in}
+use Rattle.translate.proofs.stage.lay_in.Needs as need
+
+pub returns : need.returns
+returns c =
+    let e = c .lay .ensures in
+    let l = c .as-mut-slice .ensures .len in
+    let v = c .as-mut-slice .ensures .value in
+    let h = c .head .ensures in
+    let r = c .rows .ensures .same in
+    let vec = c .args .steps .now in
+    laid-in (acceptedHead (c .args .sheet .now)) (acceptedRows (c .args .sheet .now)) (c .head .result) (now (c .rows .result)) (vec-items vec) (now (c .as-mut-slice .result)) (c .lay .last .steps) _ (vec-len vec) (c .lay .result)
+    h r v l (e .layout) (e .list) (refilled-is vec (c .lay .last .steps) (omega arith))
