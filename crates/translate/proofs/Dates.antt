@@ -56,8 +56,10 @@ module _ (cycle : ℕ) (rows : List Row) (p : ℕ) where
     where
       F : ℕ
       F = firstAmong cycle rows p d n
+
       D : ℕ
       D = dateOf (rowAt rows n)
+
       go : (isDue cycle rows p d n ≡ true) ⊎ (someDue cycle rows p d n ≡ true) → (someDue cycle rows p d n ≡ true → F ≤ d) → cond (from d n) (min D F) F ≤ d
       go (inl x) ih =
           let a = and-parts (belongs p (rowAt rows n)) _ x in
@@ -82,6 +84,7 @@ module _ (cycle : ℕ) (rows : List Row) (p : ℕ) where
     where
       D : ℕ
       D = dateOf (rowAt rows n)
+
       same : isDue cycle rows p d n ≡ false → from d n ≡ from (suc d) n
       same e = go (and-cases (belongs p (rowAt rows n)) _ e)
         where
@@ -123,14 +126,17 @@ module _ (cycle : ℕ) (rows : List Row) (p : ℕ) where
     where
       F : ℕ
       F = firstAmong cycle rows p d n
+
       D : ℕ
       D = dateOf (rowAt rows n)
+
       go : (from d n ≡ true) ⊎ (from d n ≡ false) → ((i : ℕ) × (i < n) × (belongs p (rowAt rows i) ≡ true) × (dateOf (rowAt rows i) ≡ F)) ⊎ (F ≡ cycle)
           → ((i : ℕ) × (i < suc n) × (belongs p (rowAt rows i) ≡ true) × (dateOf (rowAt rows i) ≡ cond (from d n) (min D F) F)) ⊎ (cond (from d n) (min D F) F ≡ cycle)
       go (inl q) ih = on (cases-lt D F) ih
         where
           c : cond (from d n) (min D F) F ≡ min D F
           c = cond-true _ _ _ q
+
           on : (D < F) ⊎ (F ≤ D) → ((i : ℕ) × (i < n) × (belongs p (rowAt rows i) ≡ true) × (dateOf (rowAt rows i) ≡ F)) ⊎ (F ≡ cycle)
               → ((i : ℕ) × (i < suc n) × (belongs p (rowAt rows i) ≡ true) × (dateOf (rowAt rows i) ≡ cond (from d n) (min D F) F)) ⊎ (cond (from d n) (min D F) F ≡ cycle)
           on (inl l) z = inl (n, omega arith, and-parts (belongs p (rowAt rows n)) _ q .0, omega (arith, c))
@@ -147,11 +153,14 @@ module _ (cycle : ℕ) (rows : List Row) (p : ℕ) where
     where
       F : ℕ
       F = firstAmong cycle rows p d n
+
       D : ℕ
       D = dateOf (rowAt rows n)
+
       low : (z : Bool) → cond z (min D F) F ≤ F
       low true = omega arith
       low false = omega arith
+
       go : (i ≡ n) ⊎ (i ≡ n → ⊥) → (i < n → belongs p (rowAt rows i) ≡ true → d ≤ dateOf (rowAt rows i) → F ≤ dateOf (rowAt rows i)) → cond (from d n) (min D F) F ≤ dateOf (rowAt rows i)
       go (inl e) ih =
           let m : belongs p (rowAt rows n) ≡ true = subst (λ (k : ℕ). belongs p (rowAt rows k) ≡ true) e b in

@@ -131,14 +131,36 @@ fields-of : (h : Head) (row : Row) → isKeep row ≡ false → FieldsWithin h r
 fields-of h (keepRow k) e f = absurd (true≢false e)
 fields-of h (callRow c) e (st, (wk, (ins, (out, ((lo, en), ts))))) =
     let i = call-inputs (h .variables) (c .inputs) ins in
-    record
-    { station = st; work = omega arith; few = i .0; first = i .1; second = i .2; output = out; long = lo; inside = en
-    ; tests = few-tests (c .condition); tested = mem-tests (λ v. v < h .variables) (testsOf (c .condition)) ts
-    ; copies = λ q. absurd (false≢true q); listening = λ s q. absurd (false≢true q); elsewhere = refl }
-fields-of h (sendRow s) e (st, (v, (some, (ex, (om, ((lo, en), ts)))))) = record
-    { station = st; work = omega arith; few = omega arith; first = λ l. v; second = λ l. absurd (omega arith); output = v; long = lo; inside = en
-    ; tests = few-tests (s .condition); tested = mem-tests (λ x. x < h .variables) (testsOf (s .condition)) ts
-    ; copies = λ q. (refl, refl); listening = λ n q. ex n (eqb-true _ _ q); elsewhere = ne-eqb _ _ om }
+    record {
+      station = st;
+      work = omega arith;
+      few = i .0;
+      first = i .1;
+      second = i .2;
+      output = out;
+      long = lo;
+      inside = en;
+      tests = few-tests (c .condition);
+      tested = mem-tests (λ v. v < h .variables) (testsOf (c .condition)) ts;
+      copies = λ q. absurd (false≢true q);
+      listening = λ s q. absurd (false≢true q);
+      elsewhere = refl;
+    }
+fields-of h (sendRow s) e (st, (v, (some, (ex, (om, ((lo, en), ts)))))) = record {
+  station = st;
+  work = omega arith;
+  few = omega arith;
+  first = λ l. v;
+  second = λ l. absurd (omega arith);
+  output = v;
+  long = lo;
+  inside = en;
+  tests = few-tests (s .condition);
+  tested = mem-tests (λ x. x < h .variables) (testsOf (s .condition)) ts;
+  copies = λ q. (refl, refl);
+  listening = λ n q. ex n (eqb-true _ _ q);
+  elsewhere = ne-eqb _ _ om;
+}
 
 end-within : (h : Head) (row : Row) → FieldsWithin h row → endOf row ≤ h .cycle
 end-within h (keepRow k) f = omega arith
@@ -319,6 +341,7 @@ module _ (h : Head) (rows : List Row) (rules : Rules h rows) where
     where
       few : nk ≤ length rows
       few = keep-few rows
+
       go : (m ≡ m′) ⊎ ((m < m′) ⊎ (m′ < m)) → m ≡ m′
       go (inl q) = q
       go (inr (inl q)) = absurd (keeps-apart (rowAt rows m) (rowAt rows m′) (keep-front rows m l) (keep-front rows m′ l′) (rules m′ (omega (arith, few)) .writers m q) e)
@@ -326,18 +349,19 @@ module _ (h : Head) (rows : List Row) (rules : Rules h rows) where
 
   -- The rules of acceptance, on the schedule.
   pub judged : Judged (rowsOf rows) (rowTotal rows) (h .cycle) (keepsOf rows) (keepCount rows)
-  judged = record
-    { long = λ i l. fields i l .long
-    ; inside = λ i l. fields i l .inside
-    ; copies = λ i l q. fields i l .copies q
-    ; once = once
-    ; unwritten = λ i m l k s q. keep-unwritten (rowAt rows m) (at i) (keep-front rows m k) (not-keep i l) (rules (nk + i) (below i l) .writers m (omega arith)) s q
-    ; writers = λ i j l k s t q. writers-apart (at i) (at j) (not-keep i (omega arith)) (not-keep j k) (rules (nk + j) (below j k) .writers (nk + i) (omega arith)) s t q
-    ; calls = λ i j l k s t q. calls-apart (at i) (at j) (not-keep i (omega arith)) (not-keep j k) (rules (nk + j) (below j k) .overlaps (nk + i) (omega arith)) s t q
-    ; lines = λ i j l k s t. sends-apart (at i) (at j) (not-keep i (omega arith)) (not-keep j k) (rules (nk + j) (below j k) .overlaps (nk + i) (omega arith)) s t
-    ; tested = tested
-    ; first = first
-    ; second = second }
+  judged = record {
+    long = λ i l. fields i l .long;
+    inside = λ i l. fields i l .inside;
+    copies = λ i l q. fields i l .copies q;
+    once = once;
+    unwritten = λ i m l k s q. keep-unwritten (rowAt rows m) (at i) (keep-front rows m k) (not-keep i l) (rules (nk + i) (below i l) .writers m (omega arith)) s q;
+    writers = λ i j l k s t q. writers-apart (at i) (at j) (not-keep i (omega arith)) (not-keep j k) (rules (nk + j) (below j k) .writers (nk + i) (omega arith)) s t q;
+    calls = λ i j l k s t q. calls-apart (at i) (at j) (not-keep i (omega arith)) (not-keep j k) (rules (nk + j) (below j k) .overlaps (nk + i) (omega arith)) s t q;
+    lines = λ i j l k s t. sends-apart (at i) (at j) (not-keep i (omega arith)) (not-keep j k) (rules (nk + j) (below j k) .overlaps (nk + i) (omega arith)) s t;
+    tested = tested;
+    first = first;
+    second = second;
+  }
 
   keeps-few : nk ≤ 16
   keeps-few = go (cases-lt 0 nk)
@@ -356,20 +380,21 @@ module _ (h : Head) (rows : List Row) (rules : Rules h rows) where
       let v = and-parts (ltb 0 (h .variables)) _ (b .1) in
       let c = and-parts (ltb 0 (h .cycle) && ltb (h .cycle) 65536) _ (a .1) in
       let t = and-parts (ltb 0 (h .cycle)) _ (c .0) in
-      record
-      { fewStations = omega (arith, ltb-true _ _ (s .1))
-      ; fewVariables = omega (arith, ltb-true _ _ (v .1))
-      ; rows = omega (arith, ltb-true _ _ (c .1), keep-few rows)
-      ; keeps = keeps-few
-      ; cycle = (omega (arith, ltb-true _ _ (t .0)), omega (arith, ltb-true _ _ (t .1)))
-      ; kept = λ m l. let few = keep-few rows in keep-within h (rowAt rows m) (keep-front rows m l) (rules m (omega arith) .fields)
-      ; works = λ k l q. fields k l .work
-      ; few = λ k l. fields k l .few
-      ; first = λ k l q. fields k l .first q
-      ; second = λ k l q. fields k l .second q
-      ; output = λ k l. fields k l .output
-      ; tests = λ k l. fields k l .tests
-      ; tested = λ k t l m. fields k l .tested t m }
+      record {
+        fewStations = omega (arith, ltb-true _ _ (s .1));
+        fewVariables = omega (arith, ltb-true _ _ (v .1));
+        rows = omega (arith, ltb-true _ _ (c .1), keep-few rows);
+        keeps = keeps-few;
+        cycle = (omega (arith, ltb-true _ _ (t .0)), omega (arith, ltb-true _ _ (t .1)));
+        kept = λ m l. let few = keep-few rows in keep-within h (rowAt rows m) (keep-front rows m l) (rules m (omega arith) .fields);
+        works = λ k l q. fields k l .work;
+        few = λ k l. fields k l .few;
+        first = λ k l q. fields k l .first q;
+        second = λ k l q. fields k l .second q;
+        output = λ k l. fields k l .output;
+        tests = λ k l. fields k l .tests;
+        tested = λ k t l m. fields k l .tested t m;
+      }
 
   -- The limits that the code counts on.
   pub bounded : headWithin h ≡ true → length rows ≤ h .rows → Bounded (h .cycle) rows
@@ -377,8 +402,9 @@ module _ (h : Head) (rows : List Row) (rules : Rules h rows) where
       let a = and-parts ((ltb 0 (h .stations) && ltb (h .stations) 9) && (ltb 0 (h .variables) && ltb (h .variables) 65)) _ w in
       let c = and-parts (ltb 0 (h .cycle) && ltb (h .cycle) 65536) _ (a .1) in
       let t = and-parts (ltb 0 (h .cycle)) _ (c .0) in
-      record
-      { few = omega (arith, ltb-true _ _ (c .1))
-      ; long = omega (arith, ltb-true _ _ (t .0))
-      ; short = omega (arith, ltb-true _ _ (t .1))
-      ; inside = λ i l. end-within h (rowAt rows i) (rules i l .fields) }
+      record {
+        few = omega (arith, ltb-true _ _ (c .1));
+        long = omega (arith, ltb-true _ _ (t .0));
+        short = omega (arith, ltb-true _ _ (t .1));
+        inside = λ i l. end-within h (rowAt rows i) (rules i l .fields);
+      }

@@ -65,14 +65,15 @@ map-lawful rows p q ok =
     let l : length (map (concrete rows p) q) ≡ length q = length-map q (concrete rows p) in
     let x = ok .long in
     let y = ok .short in
-    record
-    { some = omega arith
-    ; few = omega arith
-    ; steps = λ a b.
-        let m : a < length q = omega arith in
-        subst (λ (s : Step). Within (length (map (concrete rows p) q)) a s) (sym (getD-map (concrete rows p) q a PlannedStep.halt noStep m))
-        (subst (λ (n : ℕ). Within n a (concrete rows p (getD q a PlannedStep.halt))) (sym l) (step-ok (length q) a p rows (getD q a PlannedStep.halt) (ok .steps a m)))
-    ; halts = last (ok .last) }
+    record {
+      some = omega arith;
+      few = omega arith;
+      steps = λ a b.
+          let m : a < length q = omega arith in
+          subst (λ (s : Step). Within (length (map (concrete rows p) q)) a s) (sym (getD-map (concrete rows p) q a PlannedStep.halt noStep m))
+          (subst (λ (n : ℕ). Within n a (concrete rows p (getD q a PlannedStep.halt))) (sym l) (step-ok (length q) a p rows (getD q a PlannedStep.halt) (ok .steps a m)));
+      halts = last (ok .last);
+    }
   where
     last : (front : List PlannedStep) × (q ≡ front ++ (PlannedStep.halt ∷ [])) → stepIn (map (concrete rows p) q) (length (map (concrete rows p) q) - 1) ≡ Halt
     last (front, e) =
@@ -109,8 +110,9 @@ lawful-all h rows s p l =
     subst Lawful (sym (each-program h rows p m)) (program-lawful h rows s p)
 
 pub programs-lawful : Programs-lawful
-programs-lawful = record
-  { count = λ h rows. programs-many (h .cycle) rows (programCount (h .stations)) 0
-  ; each = each-program
-  ; lawful = program-lawful
-  ; unbroken = λ h rows s. rules-stand .all-lawful (translated h rows) (lawful-all h rows s) }
+programs-lawful = record {
+  count = λ h rows. programs-many (h .cycle) rows (programCount (h .stations)) 0;
+  each = each-program;
+  lawful = program-lawful;
+  unbroken = λ h rows s. rules-stand .all-lawful (translated h rows) (lawful-all h rows s);
+}

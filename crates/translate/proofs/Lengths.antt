@@ -52,8 +52,10 @@ module _ (cycle : ℕ) (rows : List Row) (p : ℕ) where
     where
       K : List Step
       K = keepsTo rows p (length rows)
+
       G : List Step
       G = givesTo rows p (length rows)
+
       go : (b : Bool) → length (cond b [] (keepsTo rows p (length rows) ++ (Clear ∷ givesTo rows p (length rows)))) ≡ cond b 0 (2 * k + 1)
       go true = refl
       go false = let l = length-append (keepsTo rows p (length rows)) (Clear ∷ givesTo rows p (length rows)) in omega arith

@@ -185,6 +185,7 @@ module _ (cycle : ℕ) (rows : List Row) (p : ℕ) (ord : Ordered cycle rows) wh
     where
       next : suc (nk + i) ≡ nk + suc i
       next = omega arith
+
       go : (due h d i ≡ true) ⊎ (due h d i ≡ false)
           → ((c : ℕ) → rowsCode cycle rows p o d (suc (nk + i)) m c ≡ map C (plannedRows h o d (suc i) m c))
           → cond (isDue cycle rows p d (nk + i)) (rowCode cycle rows p o d (nk + i) b ++ rowsCode cycle rows p o d (suc (nk + i)) m (b + rowLength cycle rows p (nk + i))) (rowsCode cycle rows p o d (suc (nk + i)) m b)
@@ -192,7 +193,7 @@ module _ (cycle : ℕ) (rows : List Row) (p : ℕ) (ord : Ordered cycle rows) wh
       go (inl q) ih =
           cond-true _ _ _ (due-same d i (omega arith) ∙ q)
           ∙ ap₂ (λ (x y : List Step). x ++ y) (row-code o d i b (omega arith))
-            (ap (λ (k : ℕ). rowsCode cycle rows p o d (suc (nk + i)) m (b + (k + 3))) (tests-many (rowAt rows (nk + i))) ∙ ih (b + rowLen h i))
+          (ap (λ (k : ℕ). rowsCode cycle rows p o d (suc (nk + i)) m (b + (k + 3))) (tests-many (rowAt rows (nk + i))) ∙ ih (b + rowLen h i))
           ∙ sym (map-append C (plannedRow h o d i b) _)
           ∙ sym (ap (map C) (cond-true _ _ _ q))
       go (inr q) ih = cond-false _ _ _ (due-same d i (omega arith) ∙ q) ∙ ih b ∙ sym (ap (map C) (cond-false _ _ _ q))
@@ -219,6 +220,7 @@ module _ (cycle : ℕ) (rows : List Row) (p : ℕ) (ord : Ordered cycle rows) wh
     where
       o : ℕ
       o = length pre
+
       go : (plannedDate h d ≡ true) ⊎ (plannedDate h d ≡ false)
           → blockCode cycle rows p (length (map C pre)) d ≡ map C (cond (plannedDate h d) (plannedRows h o d 0 n (addr h o d)) [])
       go (inl q) =
@@ -283,12 +285,16 @@ module _ (cycle : ℕ) (rows : List Row) (p : ℕ) (ord : Ordered cycle rows) wh
     where
       K : List PlannedStep
       K = keepCode (keepsOf rows) (p / 2) nk
+
       G : List PlannedStep
       G = giveCode (keepsOf rows) (p / 2) nk
+
       ks : keepsTo rows p (length rows) ≡ map C K
       ks = ap (keepsTo rows p) (sym total) ∙ keeps-rest n (omega (arith, total)) ∙ keeps-same nk (omega arith)
+
       gs : givesTo rows p (length rows) ≡ map C G
       gs = ap (givesTo rows p) (sym total) ∙ gives-rest n (omega (arith, total)) ∙ gives-same nk (omega arith)
+
       go : (b : Bool) → cond b [] (keepsTo rows p (length rows) ++ (Clear ∷ givesTo rows p (length rows))) ≡ map C (cond b [] (K ++ (PlannedStep.clear ∷ G)))
       go true = refl
       go false = ap₂ (λ (x y : List Step). x ++ (Clear ∷ y)) ks gs ∙ sym (map-append C K (PlannedStep.clear ∷ G))
@@ -306,9 +312,11 @@ module _ (cycle : ℕ) (rows : List Row) (p : ℕ) (ord : Ordered cycle rows) wh
     where
       F : PlannedStep
       F = PlannedStep.future (wake h 0) (target h (openLen h W) (wake h 0))
+
       w : waitFor cycle rows p (openingLength cycle rows p) 0 0 ≡ C F
       w = let z : wake h 0 - 0 ≡ wake h 0 = omega arith in
           ap (λ (o : ℕ). waitFor cycle rows p o 0 0) opening-length ∙ wait-same (openLen h W) 0 0 (omega arith) ∙ ap (λ (t : ℕ). Future t (target h (openLen h W) (wake h 0))) z
+
       go : (b : Bool) → cond b [] (waitFor cycle rows p (openingLength cycle rows p) 0 0 ∷ Halt ∷ []) ≡ map C (cond b [] (F ∷ PlannedStep.halt ∷ []))
       go true = refl
       go false = ap (λ (s : Step). s ∷ Halt ∷ []) w

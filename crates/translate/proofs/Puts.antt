@@ -59,7 +59,7 @@ module _ (cycle : ℕ) (rows : List Row) (p : ℕ) where
   pub row-step : (o d i n base at : ℕ) (steps : List Step) → i < n → base ≤ at
       → stored steps at (rowsCode cycle rows p o d i (n - i) (at - base))
       ≡ stored (cond (isDue cycle rows p d i) (stored steps at (rowCode cycle rows p o d i (at - base))) steps) (at + cond (isDue cycle rows p d i) (rowLength cycle rows p i) 0)
-          (rowsCode cycle rows p o d (i + 1) (n - (i + 1)) (at + cond (isDue cycle rows p d i) (rowLength cycle rows p i) 0 - base))
+      (rowsCode cycle rows p o d (i + 1) (n - (i + 1)) (at + cond (isDue cycle rows p d i) (rowLength cycle rows p i) 0 - base))
   unfolding rowsCode
   row-step o d i n base at steps l b =
       let z : n - i ≡ suc (n - (i + 1)) = omega arith in
@@ -70,6 +70,7 @@ module _ (cycle : ℕ) (rows : List Row) (p : ℕ) where
     where
       m : ℕ
       m = n - (i + 1)
+
       go : (q : Bool) → stored steps at (cond q (rowCode cycle rows p o d i (at - base) ++ rowsCode cycle rows p o d (i + 1) m (at - base + rowLength cycle rows p i)) (rowsCode cycle rows p o d (i + 1) m (at - base)))
           ≡ stored (cond q (stored steps at (rowCode cycle rows p o d i (at - base))) steps) (at + cond q (rowLength cycle rows p i) 0) (rowsCode cycle rows p o d (i + 1) m (at + cond q (rowLength cycle rows p i) 0 - base))
       go true =

@@ -45,7 +45,7 @@ pub laid-in : (h : Head) (rows : List Row) (h′ : Head) (rows′ : List Row) (o
 laid-in h rows h′ rows′ old old′ last new room r a b d l e f g =
     laid h rows old room r new
     (e ∙ ap (λ (k : ℕ). cond (ltb k (needed h′ rows′)) (Err (noRoom h′ rows′)) (Ok (layoutFor h′ rows′))) l
-      ∙ ap₂ (λ (x : Head) (y : List Row). cond (ltb room (needed x y)) (Err (noRoom x y)) (Ok (layoutFor x y))) a b)
+    ∙ ap₂ (λ (x : Head) (y : List Row). cond (ltb room (needed x y)) (Err (noRoom x y)) (Ok (layoutFor x y))) a b)
     (g ∙ f ∙ ap (λ (k : ℕ). cond (ltb k (needed h′ rows′)) old′ (laidOn (stepsOf (translated h′ rows′)) old′)) l
-      ∙ ap (λ (z : List Step). cond (ltb room (needed h′ rows′)) z (laidOn (stepsOf (translated h′ rows′)) z)) d
-      ∙ ap₂ (λ (x : Head) (y : List Row). cond (ltb room (needed x y)) old (laidOn (stepsOf (translated x y)) old)) a b)
+    ∙ ap (λ (z : List Step). cond (ltb room (needed h′ rows′)) z (laidOn (stepsOf (translated h′ rows′)) z)) d
+    ∙ ap₂ (λ (x : Head) (y : List Row). cond (ltb room (needed x y)) old (laidOn (stepsOf (translated x y)) old)) a b)

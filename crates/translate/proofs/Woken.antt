@@ -77,14 +77,16 @@ keep-not p (sendRow s) e b = false≢true e
 
 -- The first date not before another.
 first-from : (cycle : ℕ) (rows : List Row) (p e : ℕ) → e ≤ cycle → FirstFrom cycle rows p e (firstDate cycle rows p e)
-first-from cycle rows p e l = record
-  { late = first-least cycle rows p e (length rows) l
-  ; date = go (first-is cycle rows p e (length rows))
-  ; within = first-top cycle rows p e (length rows)
-  ; first = λ y a b d. let z = first-none-before cycle rows p e (length rows) (d .0) (d .1 .0) (belongs-if p (rowAt rows (d .0)) (d .1 .1)) (rw (d .1 .2) a) in let q = d .1 .2 in omega arith }
+first-from cycle rows p e l = record {
+  late = first-least cycle rows p e (length rows) l;
+  date = go (first-is cycle rows p e (length rows));
+  within = first-top cycle rows p e (length rows);
+  first = λ y a b d. let z = first-none-before cycle rows p e (length rows) (d .0) (d .1 .0) (belongs-if p (rowAt rows (d .0)) (d .1 .1)) (rw (d .1 .2) a) in let q = d .1 .2 in omega arith;
+}
   where
     x : ℕ
     x = firstDate cycle rows p e
+
     go : ((i : ℕ) × (i < length rows) × (belongs p (rowAt rows i) ≡ true) × (dateOf (rowAt rows i) ≡ firstDate cycle rows p e)) ⊎ (firstDate cycle rows p e ≡ cycle)
         → DateOf cycle rows p (firstDate cycle rows p e) ⊎ (firstDate cycle rows p e ≡ cycle)
     go (inl (i, a, b, f)) = inl (i, (a, belongs-so p (rowAt rows i) b, f))
@@ -110,9 +112,14 @@ module _ (rows : List Row) (p : ℕ) (holds : Test → Bool) where
   does k = act p (nk + k) (rowAt rows (nk + k))
 
   abbrev E : Engine Done
-  E = record
-    { ask = λ t s. Some (asked t); later = waits; perform = λ k s. Some (perform (does k) s)
-    ; take = λ x m s. perform (Keep x m) s; wipe = λ s. perform Clear s; put = λ m x w s. perform (Give m x w) s }
+  E = record {
+    ask = λ t s. Some (asked t);
+    later = waits;
+    perform = λ k s. Some (perform (does k) s);
+    take = λ x m s. perform (Keep x m) s;
+    wipe = λ s. perform Clear s;
+    put = λ m x w s. perform (Give m x w) s;
+  }
 
   act-step : (prog : List Step) (i at : ℕ) (go : ℕ → Done → Option Done) (s : Done) (row : Row)
       → oneStep holds prog (act p i row) at go s ≡ go (suc at) (perform (act p i row) s)
@@ -200,6 +207,7 @@ module _ (rows : List Row) (p : ℕ) (holds : Test → Bool) where
       where
         R : Option Done
         R = Some (perform (does k) (waits (wake h (h .stop k) - d) (target h o (wake h (h .stop k))) s))
+
         go : (i ≡ k) ⊎ (i ≡ k → ⊥) → (suc i ≤ k → turn h E o d (suc i) m s ≡ R) → cond (due h d i) (rowTurn h E o d i (asks E (h .tests i) s) s (turn h E o d (suc i) m s)) (turn h E o d (suc i) m s) ≡ R
         go (inl z) next =
             cond-true _ _ _ (ap (due h d) z ∙ q)
@@ -209,6 +217,7 @@ module _ (rows : List Row) (p : ℕ) (holds : Test → Bool) where
           where
             far : i ≤ k → (i ≡ k → ⊥) → suc i ≤ k
             far a z = grind arith
+
             on : (due h d i ≡ true) ⊎ (due h d i ≡ false) → cond (due h d i) (rowTurn h E o d i (asks E (h .tests i) s) s (turn h E o d (suc i) m s)) (turn h E o d (suc i) m s) ≡ R
             on (inr f) = cond-false _ _ _ f ∙ next (far a z)
             on (inl f) =
@@ -308,39 +317,47 @@ module _ (h : Head) (rows : List Row) (s : Sheet h rows) (p : ℕ) (holds : Test
       → Topmost L rows p holds d (keepCount rows + k)
       → (x : ℕ) × FirstFrom L rows p (endOf (rowAt rows (keepCount rows + k))) x
       × (runs holds (programCode L rows p) (suc (length (programCode L rows p))) at before
-        ≡ Some (perform (act p (keepCount rows + k) (rowAt rows (keepCount rows + k))) (waits (x - d) (blockAt L rows p x) done)))
+      ≡ Some (perform (act p (keepCount rows + k) (rowAt rows (keepCount rows + k))) (waits (x - d) (blockAt L rows p x) done)))
   does-row d at k before done ld lk e t =
       let row = rowAt rows (keepCount rows + k) in
       let len = total L rows p ord in
-      let z : endOf row ≤ L = ord .inside (keepCount rows + k) (omega arith) in
-      ( firstDate L rows p (endOf row), first-from L rows p (endOf row) z
-      , run-is at before ∙ e
-        ∙ turn-performs rows p holds sh o d n 0 k done (omega arith) (omega arith) (due-plan d k lk (t .due)) (hold-plan k (t .holding))
+      let z : endOf row ≤ L = ord .inside (keepCount rows + k) (omega arith) in (
+        firstDate L rows p (endOf row),
+        first-from L rows p (endOf row) z,
+        run-is at before ∙ e
+            ∙ turn-performs rows p holds sh o d n 0 k done (omega arith) (omega arith) (due-plan d k lk (t .due)) (hold-plan k (t .holding))
             (λ j a b f g. t .above (keepCount rows + j) (omega arith) (due-real d j (omega arith) f) (hold-real j g))
-        ∙ ap (λ (w : Done). Some (perform (act p (keepCount rows + k) row) w))
-            (ap (λ (y : ℕ). waits (wake sh y - d) (target sh o (wake sh y)) done) (sym (end-same row)) ∙ waits-is d (endOf row) done z) )
+            ∙ ap (λ (w : Done). Some (perform (act p (keepCount rows + k) row) w))
+            (ap (λ (y : ℕ). waits (wake sh y - d) (target sh o (wake sh y)) done) (sym (end-same row)) ∙ waits-is d (endOf row) done z),
+      )
 
   turns : (d at : ℕ) (before done : Done) → d < L → exec M q (suc (length q)) at before ≡ turn sh M o d 0 n done → Turn L rows p holds d at before done
-  turns d at before done ld e = record
-    { performs = λ i t. let m = numbered d i (t .due) in
+  turns d at before done ld e = record {
+    performs = λ i t. let m = numbered d i (t .due) in
         subst (λ (y : ℕ). (x : ℕ) × FirstFrom L rows p (endOf (rowAt rows y)) x
-          × (runs holds (programCode L rows p) (suc (length (programCode L rows p))) at before ≡ Some (perform (act p y (rowAt rows y)) (waits (x - d) (blockAt L rows p x) done)))) (m .2)
-        (does-row d at (i - keepCount rows) before done ld (m .1) e (subst (λ (y : ℕ). Topmost L rows p holds d y) (sym (m .2)) t))
-    ; idles = λ u.
-        ( firstDate L rows p (suc d), first-from L rows p (suc d) ld
-        , run-is at before ∙ e
+        × (runs holds (programCode L rows p) (suc (length (programCode L rows p))) at before ≡ Some (perform (act p y (rowAt rows y)) (waits (x - d) (blockAt L rows p x) done)))) (m .2)
+        (does-row d at (i - keepCount rows) before done ld (m .1) e (subst (λ (y : ℕ). Topmost L rows p holds d y) (sym (m .2)) t));
+    idles = λ u. (
+      firstDate L rows p (suc d),
+      first-from L rows p (suc d) ld,
+      run-is at before ∙ e
           ∙ turn-idles rows p holds sh o d n 0 done (λ j a b f g. u (keepCount rows + j) (due-real d j (omega arith) f) (hold-real j g))
-          ∙ ap Some (waits-is d (suc d) done ld) ) }
+          ∙ ap Some (waits-is d (suc d) done ld),
+    );
+  }
 
   pub dated : (d : ℕ) → d < L → DateOf L rows p d → (done : Done) → Turn L rows p holds d (blockAt L rows p d) done done
   dated d l (i, e) done = turns d (blockAt L rows p d) done done l (ap (λ (a : ℕ). exec M q (suc (length q)) a done) here ∙ runs-there)
     where
       m : (keepCount rows ≤ i) × (i - keepCount rows < n) × (keepCount rows + (i - keepCount rows) ≡ i)
       m = numbered d i e
+
       is : plannedDate sh d ≡ true
       is = due-date sh d (i - keepCount rows) (m .1) (due-plan d (i - keepCount rows) (m .1) (subst (λ (y : ℕ). Due L rows p d y) (sym (m .2)) e))
+
       here : blockAt L rows p d ≡ addr sh o d
       here = cond-true _ _ _ (lt-ltb d L l) ∙ ap (λ (k : ℕ). address L rows p k d) (opening-length L rows p ord) ∙ address-same L rows p ord o d
+
       runs-there : exec M q (suc (length q)) (addr sh o d) done ≡ turn sh M o d 0 n done
       runs-there = subst (λ (k : ℕ). exec M q (suc (length q)) (addr sh k d) done ≡ turn sh M k d 0 n done) (length-opening sh W) (layout-any sh (plannedOpening sh W) d l is M done)
 
@@ -353,6 +370,7 @@ module _ (h : Head) (rows : List Row) (s : Sheet h rows) (p : ℕ) (holds : Test
       again xs = record { performed = xs; next = done .next }
 
 pub turns-stand : Turns-stand
-turns-stand = record
-  { dated = λ h rows s p d l e holds done. dated h rows s p holds d l e done
-  ; opened = λ h rows s p holds done. opened h rows s p holds done }
+turns-stand = record {
+  dated = λ h rows s p d l e holds done. dated h rows s p holds d l e done;
+  opened = λ h rows s p holds done. opened h rows s p holds done;
+}

@@ -56,14 +56,34 @@ secondInput (Pair a b) = b
 
 -- A call or a send; of a keep row nothing is asked.
 abbrev pub asRow : Row → Planned
-asRow (callRow c) = record
-  { sends = false; st = c .station; work = c .work; count = inputCount (c .inputs); one = firstInput (c .inputs); two = secondInput (c .inputs)
-  ; out = c .output; listeners = λ n. false; date = c .date; dur = c .duration; tests = asTests (testsOf (c .condition)) }
-asRow (sendRow s) = record
-  { sends = true; st = s .station; work = 0; count = 1; one = s .variable; two = 0
-  ; out = s .variable; listeners = listens (s .listeners); date = s .date; dur = s .duration; tests = asTests (testsOf (s .condition)) }
+asRow (callRow c) = record {
+  sends = false;
+  st = c .station;
+  work = c .work;
+  count = inputCount (c .inputs);
+  one = firstInput (c .inputs);
+  two = secondInput (c .inputs);
+  out = c .output;
+  listeners = λ n. false;
+  date = c .date;
+  dur = c .duration;
+  tests = asTests (testsOf (c .condition));
+}
+asRow (sendRow s) = record {
+  sends = true;
+  st = s .station;
+  work = 0;
+  count = 1;
+  one = s .variable;
+  two = 0;
+  out = s .variable;
+  listeners = listens (s .listeners);
+  date = s .date;
+  dur = s .duration;
+  tests = asTests (testsOf (s .condition));
+}
 asRow (keepRow k) = record
-  { sends = false; st = 0; work = 0; count = 0; one = 0; two = 0; out = 0; listeners = λ n. false; date = 0; dur = 0; tests = [] }
+    { sends = false; st = 0; work = 0; count = 0; one = 0; two = 0; out = 0; listeners = λ n. false; date = 0; dur = 0; tests = [] }
 
 -- A keep row; of another row nothing is asked.
 abbrev pub asKeep : Row → Kept

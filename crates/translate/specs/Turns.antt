@@ -100,11 +100,11 @@ module _ (cycle : ℕ) (rows : List Row) (p : ℕ) where
       pub performs : (i : ℕ) → Topmost d i
           → (x : ℕ) × FirstFrom (endOf (rowAt rows i)) x
           × (runs holds (programCode cycle rows p) (suc (length (programCode cycle rows p))) at before
-            ≡ Some (perform (act p i (rowAt rows i)) (waits (x - d) (blockAt x) done)))
+          ≡ Some (perform (act p i (rowAt rows i)) (waits (x - d) (blockAt x) done)))
       pub idles : NoneHolds d
           → (x : ℕ) × FirstFrom (suc d) x
           × (runs holds (programCode cycle rows p) (suc (length (programCode cycle rows p))) at before
-            ≡ Some (waits (x - d) (blockAt x) done))
+          ≡ Some (waits (x - d) (blockAt x) done))
 
 -- Every unit of an accepted sheet, woken for one of its dates, does the turn of that date. Woken at address
 -- 0, it prepares its station and does the turn of date 0, whether or not that is one of its dates.

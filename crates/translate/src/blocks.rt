@@ -13,7 +13,16 @@ use netcode::Step;
 use sheet::Row;
 
 // The block of a date, of a program that begins at `base`, from `start` on.
-fn put_block(rows: &[Row], cycle: u32, program: u32, opening: usize, date: u32, steps: &mut [Step], base: usize, start: usize) -> usize
+fn put_block(
+    rows: &[Row],
+    cycle: u32,
+    program: u32,
+    opening: usize,
+    date: u32,
+    steps: &mut [Step],
+    base: usize,
+    start: usize,
+) -> usize
     requires bounded { ⌜ Bounded cycle (now rows) ⌝ }
     requires opened { ⌜ opening ≤ 259 ⌝ }
     requires within { ⌜ date < cycle ⌝ }
@@ -32,7 +41,14 @@ fn put_block(rows: &[Row], cycle: u32, program: u32, opening: usize, date: u32, 
 }
 
 // The blocks of a program that begins at `base`, after an opening that is there already.
-pub fn put_blocks(rows: &[Row], cycle: u32, program: u32, opening: usize, steps: &mut [Step], base: usize) -> usize
+pub fn put_blocks(
+    rows: &[Row],
+    cycle: u32,
+    program: u32,
+    opening: usize,
+    steps: &mut [Step],
+    base: usize,
+) -> usize
     requires bounded { ⌜ Bounded cycle (now rows) ⌝ }
     requires opened { ⌜ opening ≤ 259 ⌝ }
     requires room { ⌜ base + address cycle (now rows) program opening cycle ≤ length (now steps) ⌝ }

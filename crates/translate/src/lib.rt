@@ -13,3 +13,6 @@ pub use laws::turns_stand;
 pub use stage::Translated;
 pub use stage::translate;
 pub use worked::worked_programs;
+
+#[cfg(test)]
+mod tests;

@@ -117,7 +117,14 @@ fn put_preparation(rows: &[Row], program: u32, steps: &mut [Step], start: usize)
 }
 
 // The opening of a program, which has so many steps.
-fn put_opening(rows: &[Row], cycle: u32, program: u32, opening: usize, steps: &mut [Step], start: usize) -> usize
+fn put_opening(
+    rows: &[Row],
+    cycle: u32,
+    program: u32,
+    opening: usize,
+    steps: &mut [Step],
+    start: usize,
+) -> usize
     requires bounded { ⌜ Bounded cycle (now rows) ⌝ }
     requires opened { ⌜ opening ≡ openingLength cycle (now rows) program ⌝ }
     requires few { ⌜ opening ≤ 259 ⌝ }

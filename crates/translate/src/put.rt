@@ -62,7 +62,14 @@ fn put_tests(steps: &mut [Step], at: usize, condition: Condition, to: u32) -> us
 }
 
 // At a date, the wait for the program's first date not before `end`, or for the end of the cycle.
-pub fn wait_step(rows: &[Row], cycle: u32, program: u32, opening: usize, date: u32, end: u32) -> Step
+pub fn wait_step(
+    rows: &[Row],
+    cycle: u32,
+    program: u32,
+    opening: usize,
+    date: u32,
+    end: u32,
+) -> Step
     requires bounded { ⌜ Bounded cycle (now rows) ⌝ }
     requires opened { ⌜ opening ≤ 259 ⌝ }
     requires later { ⌜ date ≤ end ⌝ }
@@ -122,7 +129,15 @@ fn condition_of(row: Row) -> Condition
 }
 
 // The code of row `number`: its tests, which go to `to` where they fail, a wait, what it does, and HALT.
-fn put_row(steps: &mut [Step], at: usize, program: u32, number: u32, row: Row, wait: Step, to: u32) -> usize
+fn put_row(
+    steps: &mut [Step],
+    at: usize,
+    program: u32,
+    number: u32,
+    row: Row,
+    wait: Step,
+    to: u32,
+) -> usize
     requires { ⌜ at + (length (testsIn row) + 3) ≤ length (now steps) ⌝ }
     ensures list { λ _. ⌜ now (steps .exit) ≡ stored (now (steps .entry)) at (testsCode (testsIn row) to ++ (wait ∷ act program number row ∷ Halt ∷ [])) ⌝ }
     ensures end { λ r. ⌜ r ≡ at + (length (testsIn row) + 3) ⌝ }
@@ -135,7 +150,17 @@ fn put_row(steps: &mut [Step], at: usize, program: u32, number: u32, row: Row, w
 }
 
 // The code of the row at `i`, if it is the program's and has that date. The program begins at `base`.
-pub fn put_due(rows: &[Row], cycle: u32, program: u32, opening: usize, date: u32, i: usize, steps: &mut [Step], base: usize, at: usize) -> usize
+pub fn put_due(
+    rows: &[Row],
+    cycle: u32,
+    program: u32,
+    opening: usize,
+    date: u32,
+    i: usize,
+    steps: &mut [Step],
+    base: usize,
+    at: usize,
+) -> usize
     requires bounded { ⌜ Bounded cycle (now rows) ⌝ }
     requires opened { ⌜ opening ≤ 259 ⌝ }
     requires row { ⌜ i < length (now rows) ⌝ }

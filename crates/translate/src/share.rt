@@ -32,7 +32,8 @@ pub fn is_of(program: u32, row: Row) -> bool
     match row {
         Row::Keep(_) => false,
         Row::Call(c) => !is_line(program) && c.station == station(program),
-        Row::Send(s) => is_line(program) && (s.station == station(program) || is_listener(s.listeners, station(program))),
+        Row::Send(s) => is_line(program)
+            && (s.station == station(program) || is_listener(s.listeners, station(program))),
     }
 }
 

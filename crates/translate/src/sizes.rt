@@ -44,13 +44,7 @@ fn keep_length(program: u32, row: Row) -> usize
     ensures few { λ r. ⌜ r ≤ 1 ⌝ }
 {
     match row {
-        Row::Keep(k) => {
-            if k.station == station(program) {
-                1
-            } else {
-                0
-            }
-        }
+        Row::Keep(k) => { if k.station == station(program) { 1 } else { 0 } }
         Row::Call(_) => 0,
         Row::Send(_) => 0,
     }
@@ -123,5 +117,11 @@ pub fn program_length(rows: &[Row], cycle: u32, program: u32) -> usize
     ensures length { λ r. ⌜ r ≡ length (programCode cycle (now (rows .entry)) program) ⌝ }
     ensures few { λ r. ⌜ r ≤ 259 + 898 * cycle ⌝ }
 {
-    block_address(rows, cycle, program, opening_length(rows, cycle, program), cycle)
+    block_address(
+        rows,
+        cycle,
+        program,
+        opening_length(rows, cycle, program),
+        cycle,
+    )
 }

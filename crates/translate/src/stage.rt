@@ -51,23 +51,26 @@ fn lay(head: Head, rows: &[Row], steps: &mut [Step]) -> Result<Layout, Fault<Byt
 fn lay_in(sheet: &Accepted, steps: &mut Vec<Step>) -> Result<Layout, Fault<BytesPlace>>
     ensures { λ r. ⌜ Cases r
         (λ l. (needed (acceptedHead (now (sheet .entry))) (acceptedRows (now (sheet .entry))) ≤ vec-len (now (steps .entry)))
-            × (l ≡ layoutFor (acceptedHead (now (sheet .entry))) (acceptedRows (now (sheet .entry))))
-            × (vec-items (now (steps .exit)) ≡ laidOn (stepsOf (translated (acceptedHead (now (sheet .entry))) (acceptedRows (now (sheet .entry))))) (vec-items (now (steps .entry)))))
+        × (l ≡ layoutFor (acceptedHead (now (sheet .entry))) (acceptedRows (now (sheet .entry))))
+        × (vec-items (now (steps .exit)) ≡ laidOn (stepsOf (translated (acceptedHead (now (sheet .entry))) (acceptedRows (now (sheet .entry))))) (vec-items (now (steps .entry)))))
         (λ f. (vec-len (now (steps .entry)) < needed (acceptedHead (now (sheet .entry))) (acceptedRows (now (sheet .entry))))
-            × (f ≡ noRoom (acceptedHead (now (sheet .entry))) (acceptedRows (now (sheet .entry))))
-            × (vec-items (now (steps .exit)) ≡ vec-items (now (steps .entry)))) ⌝ }
+        × (f ≡ noRoom (acceptedHead (now (sheet .entry))) (acceptedRows (now (sheet .entry))))
+        × (vec-items (now (steps .exit)) ≡ vec-items (now (steps .entry)))) ⌝ }
 {
     lay(sheet.head(), sheet.rows(), steps.as_mut_slice())
 }
 
 // Translates a sheet, which is used up; its programs stand at the front of the list, whose rest stays. Where
 // the list is too short, the sheet comes back, still accepted, with the list as it was.
-pub fn translate(sheet: Accepted, mut steps: Vec<Step>) -> Result<Translated, (Accepted, Vec<Step>, Fault<BytesPlace>)>
+pub fn translate(
+    sheet: Accepted,
+    mut steps: Vec<Step>,
+) -> Result<Translated, (Accepted, Vec<Step>, Fault<BytesPlace>)>
     ensures { λ r. ⌜ Cases r
         (λ t. (needed (acceptedHead sheet) (acceptedRows sheet) ≤ vec-len steps) × (t .sheet ≡ sheet) × (t .layout ≡ layoutFor (acceptedHead sheet) (acceptedRows sheet))
-            × (vec-items (t .steps) ≡ laidOn (stepsOf (translated (acceptedHead sheet) (acceptedRows sheet))) (vec-items steps)))
+        × (vec-items (t .steps) ≡ laidOn (stepsOf (translated (acceptedHead sheet) (acceptedRows sheet))) (vec-items steps)))
         (λ e. (vec-len steps < needed (acceptedHead sheet) (acceptedRows sheet)) × (e .0 ≡ sheet) × (vec-items (e .1) ≡ vec-items steps)
-            × (e .2 ≡ noRoom (acceptedHead sheet) (acceptedRows sheet))) ⌝ }
+        × (e .2 ≡ noRoom (acceptedHead sheet) (acceptedRows sheet))) ⌝ }
 {
     match lay_in(&sheet, &mut steps) {
         Ok(layout) => Ok(Translated {

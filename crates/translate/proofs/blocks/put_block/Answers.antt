@@ -18,7 +18,7 @@ loop-i-holds c =
     let b = c .pre .bounded .few in
     let z : length rows - 0 ≡ length rows = omega arith in
     let e : rowsLength (c .args .cycle) rows (c .args .program) (c .args .date) 0 (length rows - 0) ≡ rowsLength (c .args .cycle) rows (c .args .program) (c .args .date) 0 (length rows)
-        = ap (rowsLength (c .args .cycle) rows (c .args .program) (c .args .date) 0) z in (
+    = ap (rowsLength (c .args .cycle) rows (c .args .program) (c .args .date) 0) z in (
       sym (ap (λ (k : ℕ). stored (c .args .steps .now) (c .args .start) (rowsCode (c .args .cycle) rows (c .args .program) (c .args .opening) (c .args .date) 0 k (c .args .start - c .args .base))) z),
       omega arith,
       c .pre .begun,
@@ -37,13 +37,14 @@ put-due-at-requires c κs =
     let near = c .pre .near in
     let room = c .pre .room in
     let begun = c .pre .begun in
-    record
-    { bounded = c .pre .bounded
-    ; opened = c .pre .opened
-    ; row = t
-    ; begun = l .inv .2
-    ; near = omega arith
-    ; room = omega arith }
+    record {
+      bounded = c .pre .bounded;
+      opened = c .pre .opened;
+      row = t;
+      begun = l .inv .2;
+      near = omega arith;
+      room = omega arith;
+    }
 
 pub loop-i-again : need.loop-i-again
 loop-i-again c =
@@ -73,10 +74,11 @@ returns c =
     let z : length rows - l .i ≡ 0 = omega arith in
     let y = ap (rowsLength (c .args .cycle) rows (c .args .program) (c .args .date) (l .i)) z ∙ length-last (c .args .cycle) rows (c .args .program) (c .args .date) (l .i) in
     let f = w .end in
-    record
-    { list =
-        w .list
-        ∙ ap (λ (s : Step). stored (l .steps) (l .at) (s ∷ Halt ∷ [])) (c .wait-step-wait .ensures ∙ ap (waitFor (c .args .cycle) rows (c .args .program) (c .args .opening) (c .args .date)) (add-one (c .args .date)))
-        ∙ sym (l .inv .0 ∙ ap (λ (k : ℕ). stored (l .steps) (l .at) (rowsCode (c .args .cycle) rows (c .args .program) (c .args .opening) (c .args .date) (l .i) k (l .at - c .args .base))) z
-        ∙ ap (stored (l .steps) (l .at)) (rows-last (c .args .cycle) rows (c .args .program) (c .args .opening) (c .args .date) (l .i) (l .at - c .args .base)))
-    ; end = omega arith }
+    record {
+      list =
+          w .list
+          ∙ ap (λ (s : Step). stored (l .steps) (l .at) (s ∷ Halt ∷ [])) (c .wait-step-wait .ensures ∙ ap (waitFor (c .args .cycle) rows (c .args .program) (c .args .opening) (c .args .date)) (add-one (c .args .date)))
+          ∙ sym (l .inv .0 ∙ ap (λ (k : ℕ). stored (l .steps) (l .at) (rowsCode (c .args .cycle) rows (c .args .program) (c .args .opening) (c .args .date) (l .i) k (l .at - c .args .base))) z
+          ∙ ap (stored (l .steps) (l .at)) (rows-last (c .args .cycle) rows (c .args .program) (c .args .opening) (c .args .date) (l .i) (l .at - c .args .base)));
+      end = omega arith;
+    }

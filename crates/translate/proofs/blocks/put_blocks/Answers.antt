@@ -36,13 +36,14 @@ put-block-at-requires c κs =
     let room = c .pre .room in
     let m = address-more (c .args .cycle) rows (c .args .program) (c .args .opening) (l .next) _ (l .inv .4 t) refl in
     let u = address-up (c .args .cycle) rows (c .args .program) (c .args .opening) (suc (l .next)) (c .args .cycle) t in
-    record
-    { bounded = c .pre .bounded
-    ; opened = c .pre .opened
-    ; within = t
-    ; begun = omega arith
-    ; near = omega arith
-    ; room = omega arith }
+    record {
+      bounded = c .pre .bounded;
+      opened = c .pre .opened;
+      within = t;
+      begun = omega arith;
+      near = omega arith;
+      room = omega arith;
+    }
 
 pub loop-next-again : need.loop-next-again
 loop-next-again c =
@@ -65,7 +66,7 @@ loop-next-again c =
           b .list
           ∙ ap (λ (k : ℕ). stored (l .steps) (l .at) (rowsCode (c .args .cycle) rows (c .args .program) k (l .next) 0 (length rows) (l .at - c .args .base))) (sym z)
           ∙ block-step (c .args .cycle) rows (c .args .program) before old (l .steps) (c .args .base) (l .at) (l .next) y t f q
-              (i1 ∙ ap (λ (k : ℕ). c .args .base + address (c .args .cycle) rows (c .args .program) k (l .next)) (sym z)) (l .inv .0 before old z w)),
+          (i1 ∙ ap (λ (k : ℕ). c .args .base + address (c .args .cycle) rows (c .args .program) k (l .next)) (sym z)) (l .inv .0 before old z w)),
       omega arith,
       omega arith,
       e .within,

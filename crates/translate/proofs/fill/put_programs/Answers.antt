@@ -42,6 +42,7 @@ pub returns : need.returns
 returns c =
     let l = c .loop-program in
     let z = none (c .args .cycle) (c .args .rows .now) (l .program) (programCount (c .args .stations)) (omega arith) in
-    record
-    { list = sym (l .inv .0 ∙ ap (λ (ps : List (List Step)). stored (l .steps) (l .at) (stepsOf ps)) z)
-    ; lengths = sym (l .inv .1 ∙ ap (λ (ps : List (List Step)). stored (l .lengths) (l .program) (map length ps)) z) }
+    record {
+      list = sym (l .inv .0 ∙ ap (λ (ps : List (List Step)). stored (l .steps) (l .at) (stepsOf ps)) z);
+      lengths = sym (l .inv .1 ∙ ap (λ (ps : List (List Step)). stored (l .lengths) (l .program) (map length ps)) z);
+    }

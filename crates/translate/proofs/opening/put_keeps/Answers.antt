@@ -43,6 +43,7 @@ loop-i-again c =
 pub returns : need.returns
 returns c =
     let n : c .loop-i .i ≡ length (c .args .rows .now) = omega arith in
-    record
-    { list = c .loop-i .inv .0 ∙ ap (λ (k : ℕ). stored (c .args .steps .now) (c .args .start) (keepsTo (c .args .rows .now) (c .args .program) k)) n
-    ; end = c .loop-i .inv .1 ∙ ap (λ (k : ℕ). c .args .start + length (keepsTo (c .args .rows .now) (c .args .program) k)) n }
+    record {
+      list = c .loop-i .inv .0 ∙ ap (λ (k : ℕ). stored (c .args .steps .now) (c .args .start) (keepsTo (c .args .rows .now) (c .args .program) k)) n;
+      end = c .loop-i .inv .1 ∙ ap (λ (k : ℕ). c .args .start + length (keepsTo (c .args .rows .now) (c .args .program) k)) n;
+    }

@@ -19,9 +19,10 @@ returns c =
     let g = c .put-gives .ensures in
     let e = k .end in
     let f = g .end in
-    record
-    { list =
-        g .list
-        ∙ ap₂ (λ (xs : List Step) (a : ℕ). stored (set xs a Clear) (a + 1) gs) (k .list) e
-        ∙ sym (stored-append (c .args .steps .now) (c .args .start) ks (Clear ∷ gs))
-    ; end = omega arith }
+    record {
+      list =
+          g .list
+          ∙ ap₂ (λ (xs : List Step) (a : ℕ). stored (set xs a Clear) (a + 1) gs) (k .list) e
+          ∙ sym (stored-append (c .args .steps .now) (c .args .start) ks (Clear ∷ gs));
+      end = omega arith;
+    }

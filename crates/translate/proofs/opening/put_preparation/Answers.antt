@@ -22,9 +22,10 @@ put-kept-requires c κs =
 pub returns-then-is-line : need.returns-then-is-line
 returns-then-is-line c =
     let e = prepared-line (c .args .rows .now) (c .args .program) (sym (c .if-is-line .ensures tt)) in
-    record
-    { list = sym (ap (stored (c .args .steps .now) (c .args .start)) e)
-    ; end = sym (ap (λ (xs : List Step). c .args .start + length xs) e ∙ omega arith) }
+    record {
+      list = sym (ap (stored (c .args .steps .now) (c .args .start)) e);
+      end = sym (ap (λ (xs : List Step). c .args .start + length xs) e ∙ omega arith);
+    }
 
 pub returns-else-is-line : need.returns-else-is-line
 returns-else-is-line c =
@@ -32,6 +33,7 @@ returns-else-is-line c =
     let l = p .1 in
     let k = c .put-kept .ensures in
     let f = k .end in
-    record
-    { list = k .list ∙ sym (ap (stored (c .args .steps .now) (c .args .start)) (p .0))
-    ; end = omega arith }
+    record {
+      list = k .list ∙ sym (ap (stored (c .args .steps .now) (c .args .start)) (p .0));
+      end = omega arith;
+    }

@@ -34,6 +34,7 @@ returns c =
     let l = program-length (c .args .cycle) rows (c .args .program) ∙ ap (λ (k : ℕ). address (c .args .cycle) rows (c .args .program) k (c .args .cycle)) (sym (o .length)) in
     let b = c .put-blocks .ensures in
     let f = b .end in
-    record
-    { list = b .list (opening (c .args .cycle) rows (c .args .program)) (c .args .steps .now) (opening-length (c .args .cycle) rows (c .args .program) ∙ sym (o .length)) (c .put-opening .ensures)
-    ; end = omega arith }
+    record {
+      list = b .list (opening (c .args .cycle) rows (c .args .program)) (c .args .steps .now) (opening-length (c .args .cycle) rows (c .args .program) ∙ sym (o .length)) (c .put-opening .ensures);
+      end = omega arith;
+    }

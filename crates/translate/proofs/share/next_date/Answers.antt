@@ -30,8 +30,9 @@ returns c =
     let d = c .args .from in
     let n : c .loop-i .i ≡ length rows = omega arith in
     let e : c .loop-i .first ≡ firstDate (c .args .cycle) rows p d = c .loop-i .inv ∙ ap (firstAmong (c .args .cycle) rows p d) n in
-    record
-    { first = e
-    ; within = omega (arith, first-top (c .args .cycle) rows p d (length rows))
-    ; late = λ l. omega (arith, first-least (c .args .cycle) rows p d (length rows) l)
-    ; dated = λ l. rw e (first-date (c .args .cycle) rows p d (omega arith)) }
+    record {
+      first = e;
+      within = omega (arith, first-top (c .args .cycle) rows p d (length rows));
+      late = λ l. omega (arith, first-least (c .args .cycle) rows p d (length rows) l);
+      dated = λ l. rw e (first-date (c .args .cycle) rows p d (omega arith));
+    }

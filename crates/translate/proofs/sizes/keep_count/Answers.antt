@@ -23,7 +23,8 @@ loop-i-again c =
 pub returns : need.returns
 returns c =
     let n : c .loop-i .i ≡ length (c .args .rows .now) = omega arith in
-    record
-    { keeps = c .loop-i .inv .0 ∙ ap (λ (k : ℕ). length (keepsTo (c .args .rows .now) (c .args .program) k)) n
-    ; gives = c .loop-i .inv .1 ∙ ap (λ (k : ℕ). length (givesTo (c .args .rows .now) (c .args .program) k)) n
-    ; few = omega (arith, c .loop-i .inv .2) }
+    record {
+      keeps = c .loop-i .inv .0 ∙ ap (λ (k : ℕ). length (keepsTo (c .args .rows .now) (c .args .program) k)) n;
+      gives = c .loop-i .inv .1 ∙ ap (λ (k : ℕ). length (givesTo (c .args .rows .now) (c .args .program) k)) n;
+      few = omega (arith, c .loop-i .inv .2);
+    }

@@ -8,6 +8,7 @@ use Rattle.translate.proofs.sizes.preparation_length.Needs as need
 pub returns-else-is-line : need.returns-else-is-line
 returns-else-is-line c =
     let k = c .keep-count .ensures in
-    record
-    { length = sym (preparation-length 0 (c .args .rows .now) (c .args .program) (c .keep-count .result) (k .keeps) (k .gives) ∙ cond-false (isLine (c .args .program)) _ _ (sym (c .if-is-line .ensures tt)))
-    ; few = omega (arith, k .few) }
+    record {
+      length = sym (preparation-length 0 (c .args .rows .now) (c .args .program) (c .keep-count .result) (k .keeps) (k .gives) ∙ cond-false (isLine (c .args .program)) _ _ (sym (c .if-is-line .ensures tt)));
+      few = omega (arith, k .few);
+    }

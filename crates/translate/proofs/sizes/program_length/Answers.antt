@@ -9,6 +9,7 @@ pub returns : need.returns
 returns c =
     let b = c .block-address .ensures in
     let o = c .opening-length .ensures in
-    record
-    { length = b .address ∙ ap (λ (k : ℕ). address (c .args .cycle) (c .args .rows .now) (c .args .program) k (c .args .cycle)) (o .length) ∙ sym (program-length (c .args .cycle) (c .args .rows .now) (c .args .program))
-    ; few = omega (arith, b .few, o .few) }
+    record {
+      length = b .address ∙ ap (λ (k : ℕ). address (c .args .cycle) (c .args .rows .now) (c .args .program) k (c .args .cycle)) (o .length) ∙ sym (program-length (c .args .cycle) (c .args .rows .now) (c .args .program));
+      few = omega (arith, b .few, o .few);
+    }

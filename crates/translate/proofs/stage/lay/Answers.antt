@@ -2,7 +2,6 @@ use mathlib.Core.Path.{_≡_, sym, ap, _∙_}
 use mathlib.Core.List.{List}
 use Prim.Native.Nat.{ℕ, _≤_}
 use native.Mathlib.Omega.{arith}
-
 use lib.ListN.{length}
 use Rattle.std.specs.declared.result.Result.{Result}
 use Rattle.std.specs.declared.result.Result.the-variants.{Ok, Err}
@@ -25,6 +24,7 @@ returns c =
     let f = le-ltb (length (c .args .steps .now)) (needed h rows) room in
     let e = c .put-programs-lengths .ensures in
     let ok : List ℕ → Result Layout (Fault BytesPlace) = λ ls. Ok record { stations = h .stations; lengths = ls } in
-    record
-    { layout = ap ok (e .lengths ∙ lengths-laid h rows) ∙ sym (cond-false _ _ _ f)
-    ; list = e .list ∙ stored-laid (c .args .steps .now) (stepsOf (translated h rows)) room ∙ sym (cond-false _ _ _ f) }
+    record {
+      layout = ap ok (e .lengths ∙ lengths-laid h rows) ∙ sym (cond-false _ _ _ f);
+      list = e .list ∙ stored-laid (c .args .steps .now) (stepsOf (translated h rows)) room ∙ sym (cond-false _ _ _ f);
+    }
