@@ -103,7 +103,7 @@ module _ (cycle : ℕ) (rows : List Row) (p : ℕ) where
   first-end n = omega (arith, first-least cycle n (omega arith), first-top cycle n)
 
   -- The steps of the rows of a date, one row more at the end.
-  rows-push : (d m i : ℕ) → rowsLength cycle rows p d i (suc m) ≡ rowsLength cycle rows p d i m + cond (isDue cycle rows p d (i + m)) (rowLength cycle rows p (i + m)) 0
+  pub rows-push : (d m i : ℕ) → rowsLength cycle rows p d i (suc m) ≡ rowsLength cycle rows p d i m + cond (isDue cycle rows p d (i + m)) (rowLength cycle rows p (i + m)) 0
   unfolding rowsLength
   rows-push d zero i = rw (add-zero i) (omega arith)
   rows-push d (suc m) i = let e = rows-push d m (suc i) in let z : i + suc m ≡ suc i + m = omega arith in rw z (omega arith)
@@ -193,3 +193,14 @@ module _ (cycle : ℕ) (rows : List Row) (p : ℕ) where
           → isDate cycle rows p (firstDate cycle rows p d) ≡ true
       go (inl (i, a, b, e)) = some-at (firstDate cycle rows p d) (length rows) i a (and-from _ _ b (eq-eqb _ _ e))
       go (inr e) = absurd (omega arith)
+
+  -- A date has a row.
+  pub some-row : (d n : ℕ) → someDue cycle rows p d n ≡ true → (i : ℕ) × (i < n) × (belongs p (rowAt rows i) ≡ true) × (dateOf (rowAt rows i) ≡ d)
+  unfolding someDue
+  some-row d zero e = absurd (both-ways _ refl e)
+  some-row d (suc n) e = go (or-cases (isDue cycle rows p d n) _ e) (some-row d n)
+    where
+      go : (isDue cycle rows p d n ≡ true) ⊎ (someDue cycle rows p d n ≡ true) → (someDue cycle rows p d n ≡ true → (i : ℕ) × (i < n) × (belongs p (rowAt rows i) ≡ true) × (dateOf (rowAt rows i) ≡ d))
+          → (i : ℕ) × (i < suc n) × (belongs p (rowAt rows i) ≡ true) × (dateOf (rowAt rows i) ≡ d)
+      go (inl x) ih = let a = and-parts (belongs p (rowAt rows n)) _ x in (n, omega arith, a .0, eqb-true _ _ (a .1))
+      go (inr x) ih = let r = ih x in (r .0, omega (arith, r .1), r .2, r .3)

@@ -361,7 +361,7 @@ module _ (h : Head) (rows : List Row) (s : Sheet h rows) (p : ℕ) (holds : Test
       runs-there : exec M q (suc (length q)) (addr sh o d) done ≡ turn sh M o d 0 n done
       runs-there = subst (λ (k : ℕ). exec M q (suc (length q)) (addr sh k d) done ≡ turn sh M k d 0 n done) (length-opening sh W) (layout-any sh (plannedOpening sh W) d l is M done)
 
-  pub opened : (done : Done) → Turn L rows p holds 0 0 done record { performed = done .performed ++ preparation L rows p; next = done .next }
+  pub opened : (done : Done) → Turn L rows p holds 0 0 done record { performed = done .performed ++ preparation rows p; next = done .next }
   opened done = turns 0 0 done _ long
       (opening-any sh W (head-plain (keepsOf rows) (keepCount rows) p) long M done
       ∙ ap (turn sh M o 0 0 n) (prepares rows p holds W (head-plain (keepsOf rows) (keepCount rows) p) done ∙ ap (λ (xs : List Step). again (done .performed ++ xs)) (sym (preparation-same L rows p ord))))
