@@ -7,3 +7,4 @@ pub mod Ticking
 pub mod Readings
 pub mod Runs
 pub mod Kept
+pub mod Ending

@@ -3,3 +3,4 @@ pub mod Machine
 pub mod Requests
 pub mod Worked
 pub mod Promise
+pub mod Laws

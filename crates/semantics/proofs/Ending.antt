@@ -1,0 +1,93 @@
+-- Laws of the machine, for any programs.
+use mathlib.Core.Path.{_≡_, refl, sym, ap, ap₂, _∙_, subst}
+use mathlib.Core.Bool.{Bool, true, false, cond}
+use mathlib.Core.Logic.{_⊎_, inl, inr}
+use mathlib.Core.List.{List, [], _∷_, _++_}
+use Prim.Native.Nat.{ℕ, zero, suc, _+_, _≤_, _<_}
+use native.Mathlib.Omega.{arith}
+use native.Mathlib.Numerals.{add-one}
+use lib.Dec.{ltb}
+use Rattle.std.proofs.shelf.Tests.{cond-true, cond-false, le-ltb, lt-ltb}
+use Rattle.std.specs.declared.option.Option.{Option}
+use Rattle.std.specs.declared.option.Option.the-variants.{Some, None}
+use Rattle.fault.specs.declared.refusal.Fault.{Fault}
+use Rattle.fault.specs.declared.refusal.Refusal.the-variants.{LimitReached, Stopped}
+use Rattle.fault.specs.declared.place.TickPlace.{TickPlace}
+use Rattle.netcode.specs.declared.step.Step.{Step}
+use Rattle.plant.specs.Model.{Model}
+use Rattle.semantics.specs.declared.state.Request.{Request}
+use Rattle.semantics.specs.declared.state.Request.the-variants.{Tick, Rehearse, WordAt, MarkAt}
+use Rattle.semantics.specs.declared.state.Reply.{Reply}
+use Rattle.semantics.specs.Machine.{World, Outcome, limit, ofTheRun, at, withStopped, parts, counted, tick}
+use Rattle.semantics.specs.Requests.{Rehearsal, rehearsedOn, rehearsed, ticked, served, servedAll}
+use Rattle.semantics.specs.Laws.{Leads, Rehearses, EndsAt, Machine-laws, Laws-stand}
+
+module _ (m : Model) (programs : List (List Step)) where
+  abbrev S : Type 0
+  S = m .State
+
+  rehearses : (n : ℕ) (w : World S) → Rehearses m programs n w (rehearsed m programs n w)
+  unfolding rehearsed
+  rehearses zero w = inl (refl, refl, refl)
+  rehearses (suc n) w = go (tick m programs w) refl (λ v. rehearses n v)
+    where
+      go : (o : Outcome S) → tick m programs w ≡ o → ((v : World S) → Rehearses m programs n v (rehearsed m programs n v)) → Rehearses m programs (suc n) w (rehearsedOn m programs o (rehearsed m programs n))
+      go (Outcome.refused f v) e ih = inr (f, w, refl, omega arith, refl, e)
+      go (Outcome.done v) e ih = on (ih v)
+        where
+          x : Rehearsal S
+          x = rehearsed m programs n v
+          on : Rehearses m programs n v x → Rehearses m programs (suc n) w (rehearsedOn m programs (Outcome.done v) (rehearsed m programs n))
+          on (inl (a, b, c)) = inl (a, add-one (x .count) ∙ ap suc b, (v, e, c))
+          on (inr (f, u, a, b, c, d)) = inr (f, u, a, omega arith, subst (λ (k : ℕ). Leads m programs k w u) (sym (add-one (x .count))) (v, e, c), d)
+
+  stopped : (w : World S) → w .state .stopped ≡ true → tick m programs w ≡ Outcome.refused (ofTheRun Stopped) w
+  stopped w e = cond-true _ _ _ e
+
+  stays : (n : ℕ) (w : World S) → w .state .stopped ≡ true → rehearsed m programs n w .world ≡ w
+  unfolding rehearsed
+  stays zero w e = refl
+  stays (suc n) w e = ap (λ (o : Outcome S). rehearsedOn m programs o (rehearsed m programs n) .world) (stopped w e)
+
+  stays-one : (r : Request) (w : World S) → w .state .stopped ≡ true → served m programs r w .world ≡ w
+  stays-one Tick w e = ap (λ (o : Outcome S). ticked m programs o .world) (stopped w e)
+  stays-one (Rehearse n) w e = stays n w e
+  stays-one (WordAt s v) w e = refl
+  stays-one (MarkAt r) w e = refl
+
+  stays-all : (rs : List Request) (w : World S) → w .state .stopped ≡ true → servedAll m programs rs w .world ≡ w
+  unfolding servedAll
+  stays-all [] w e = refl
+  stays-all (r ∷ rs) w e = ap (λ (v : World S). servedAll m programs rs v .world) (stays-one r w e) ∙ stays-all rs w e
+
+  ended : (w v : World S) (f : Fault TickPlace) → w .state .stopped ≡ false → w .state .granted < limit → tick m programs w ≡ Outcome.refused f v → EndsAt m programs v
+  ended w v f e l h rs = (stays-all rs v stop, stopped v stop)
+    where
+      inner : (o : Outcome S) → counted m programs (w .state .granted) o ≡ Outcome.refused f v → v .state .stopped ≡ true
+      inner (Outcome.done u) q = absurd (let z : _≡_ {A = ℕ} 0 1 = cc in omega arith)
+      inner (Outcome.refused g u) q = let y : v ≡ at u (withStopped (u .state)) = cc in ap (λ (x : World S). x .state .stopped) y
+      stop : v .state .stopped ≡ true
+      stop = inner (parts m programs w) (sym (cond-false _ _ _ e ∙ cond-true _ _ _ (lt-ltb (w .state .granted) limit l)) ∙ h)
+
+  on-world : (rs ss : List Request) (w : World S) → servedAll m programs (rs ++ ss) w .world ≡ servedAll m programs ss (servedAll m programs rs w .world) .world
+  unfolding servedAll
+  on-world [] ss w = refl
+  on-world (r ∷ rs) ss w = on-world rs ss (served m programs r w .world)
+
+  on-replies : (rs ss : List Request) (w : World S) → servedAll m programs (rs ++ ss) w .replies ≡ servedAll m programs rs w .replies ++ servedAll m programs ss (servedAll m programs rs w .world) .replies
+  unfolding servedAll
+  on-replies [] ss w = refl
+  on-replies (r ∷ rs) ss w = ap (λ (xs : List Reply). served m programs r w .reply ∷ xs) (on-replies rs ss (served m programs r w .world))
+
+  machine-laws : Machine-laws m programs
+  machine-laws = record
+    { rehearsals = rehearses
+    ; stopped = stopped
+    ; full = λ w e l. cond-false _ _ _ e ∙ cond-false _ _ _ (le-ltb (w .state .granted) limit l)
+    ; ended = ended
+    ; word-at = λ w s v. refl
+    ; mark-at = λ w r. refl
+    ; on = λ rs ss w. (on-world rs ss w, on-replies rs ss w) }
+
+pub laws-stand : (m : Model) → Laws-stand m
+laws-stand m programs = machine-laws m programs

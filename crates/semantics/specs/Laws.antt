@@ -1,0 +1,55 @@
+-- Laws of the machine, above any plant and for any programs.
+use mathlib.Core.Path.{_≡_}
+use mathlib.Core.Bool.{true, false}
+use mathlib.Core.Logic.{_⊎_}
+use mathlib.Core.List.{List, [], _∷_, _++_}
+use Prim.Native.Nat.{ℕ, zero, suc, _≤_, _<_}
+use Rattle.std.specs.declared.option.Option.{Option}
+use Rattle.std.specs.declared.option.Option.the-variants.{Some, None}
+use Rattle.fault.specs.declared.refusal.Fault.{Fault}
+use Rattle.fault.specs.declared.refusal.Refusal.the-variants.{LimitReached, Stopped}
+use Rattle.fault.specs.declared.place.TickPlace.{TickPlace}
+use Rattle.netcode.specs.declared.step.Step.{Step}
+use Rattle.plant.specs.Model.{Model}
+use Rattle.semantics.specs.declared.state.Request.{Request}
+use Rattle.semantics.specs.declared.state.Request.the-variants.{WordAt, MarkAt}
+use Rattle.semantics.specs.declared.state.Reply.{Reply}
+use Rattle.semantics.specs.Machine.{World, Outcome, limit, ofTheRun, tick}
+use Rattle.semantics.specs.Requests.{Rehearsal, rehearsed, served, servedAll}
+
+module _ (m : Model) (programs : List (List Step)) where
+  -- So many granted ticks lead from one world to another.
+  abbrev pub Leads : ℕ → World (m .State) → World (m .State) → Type 0
+  Leads zero w v = w ≡ v
+  Leads (suc n) w v = (u : World (m .State)) × (tick m programs w ≡ Outcome.done u) × Leads n u v
+
+  -- A rehearsal of n ticks is n granted ticks, or as many as come before the first refusal, and that refusal.
+  abbrev pub Rehearses : ℕ → World (m .State) → Rehearsal (m .State) → Type 0
+  Rehearses n w r =
+      ((r .ended ≡ None) × (r .count ≡ n) × Leads n w (r .world))
+      ⊎ ((fault : Fault TickPlace) × (v : World (m .State)) × (r .ended ≡ Some fault) × (r .count < n) × Leads (r .count) w v
+      × (tick m programs v ≡ Outcome.refused fault (r .world)))
+
+  -- From this world on every tick is refused 19, whatever is asked between, and nothing is changed.
+  abbrev pub EndsAt : World (m .State) → Type 0
+  EndsAt w = (rs : List Request) → (servedAll m programs rs w .world ≡ w) × (tick m programs w ≡ Outcome.refused (ofTheRun Stopped) w)
+
+  pub record Machine-laws : Type 0 where
+    pub rehearsals : (n : ℕ) (w : World (m .State)) → Rehearses n w (rehearsed m programs n w)
+    -- A run that has stopped refuses 19; another at its limit refuses 18. Neither changes anything.
+    pub stopped : (w : World (m .State)) → w .state .stopped ≡ true → tick m programs w ≡ Outcome.refused (ofTheRun Stopped) w
+    pub full : (w : World (m .State)) → w .state .stopped ≡ false → limit ≤ w .state .granted → tick m programs w ≡ Outcome.refused (ofTheRun LimitReached) w
+    -- A tick that is refused otherwise ends the run, and is not counted.
+    pub ended : (w v : World (m .State)) (fault : Fault TickPlace) → w .state .stopped ≡ false → w .state .granted < limit
+        → tick m programs w ≡ Outcome.refused fault v → EndsAt v
+    -- Word-at and mark-at change nothing.
+    pub word-at : (w : World (m .State)) (station variable : ℕ) → served m programs (WordAt station variable) w .world ≡ w
+    pub mark-at : (w : World (m .State)) (row : ℕ) → served m programs (MarkAt row) w .world ≡ w
+    -- A list of requests goes on where the one before it ended.
+    pub on : (rs ss : List Request) (w : World (m .State))
+        → (servedAll m programs (rs ++ ss) w .world ≡ servedAll m programs ss (servedAll m programs rs w .world) .world)
+        × (servedAll m programs (rs ++ ss) w .replies ≡ servedAll m programs rs w .replies ++ servedAll m programs ss (servedAll m programs rs w .world) .replies)
+
+-- For any programs.
+abbrev pub Laws-stand : Model → Type 0
+Laws-stand m = (programs : List (List Step)) → Machine-laws m programs
