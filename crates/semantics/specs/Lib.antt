@@ -4,3 +4,4 @@ pub mod Requests
 pub mod Worked
 pub mod Promise
 pub mod Laws
+pub mod Events
