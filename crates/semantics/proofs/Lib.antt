@@ -8,3 +8,4 @@ pub mod Readings
 pub mod Runs
 pub mod Kept
 pub mod Ending
+pub mod Tallies
