@@ -18,8 +18,12 @@ use Rattle.plant.specs.Model.{Model}
 use Rattle.semantics.specs.declared.state.Request.{Request}
 use Rattle.semantics.specs.declared.state.Request.the-variants.{Tick, Rehearse, WordAt, MarkAt}
 use Rattle.semantics.specs.declared.state.Reply.{Reply}
-use Rattle.semantics.specs.Machine.{World, Outcome, limit, ofTheRun, at, withStopped, parts, counted, tick}
-use Rattle.semantics.specs.Requests.{Rehearsal, rehearsedOn, rehearsed, ticked, served, servedAll}
+use Rattle.std.proofs.shelf.Lists.{getD-replicate, length-replicate}
+use Rattle.semantics.specs.declared.state.Mark.{Mark}
+use Rattle.semantics.proofs.Tallies.{requests-tally}
+use Rattle.semantics.proofs.Lines.{line-stays}
+use Rattle.semantics.specs.Machine.{World, Outcome, blankMark, newState, markIn, limit, ofTheRun, at, withStopped, parts, counted, tick}
+use Rattle.semantics.specs.Requests.{Rehearsal, rehearsedOn, rehearsed, ticked, served, servedAll, atMaking}
 use Rattle.semantics.specs.Laws.{Leads, Rehearses, EndsAt, Machine-laws, Laws-stand}
 
 module _ (m : Model) (programs : List (List Step)) where
@@ -87,6 +91,11 @@ module _ (m : Model) (programs : List (List Step)) where
     ; ended = ended
     ; word-at = λ w s v. refl
     ; mark-at = λ w r. refl
+    ; plant = λ start rs. requests-tally m programs rs (atMaking m programs start) .plant
+    ; counts = λ start rs row l.
+        requests-tally m programs rs (atMaking m programs start) .counts row (let e = length-replicate 128 blankMark in omega arith)
+        ∙ (let e : markIn newState row .count ≡ 0 = ap (λ (x : Mark). x .count) (getD-replicate 128 row blankMark blankMark l) in omega arith)
+    ; line = line-stays m programs
     ; on = λ rs ss w. (on-world rs ss w, on-replies rs ss w) }
 
 pub laws-stand : (m : Model) → Laws-stand m

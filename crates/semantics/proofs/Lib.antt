@@ -7,5 +7,6 @@ pub mod Ticking
 pub mod Readings
 pub mod Runs
 pub mod Kept
-pub mod Ending
 pub mod Tallies
+pub mod Lines
+pub mod Ending

@@ -13,7 +13,7 @@ use Rattle.std.proofs.shelf.Tests.{cases-lt, cases-eq, cases-bool, cond-true, c
 use Rattle.std.specs.declared.option.Option.{Option}
 use Rattle.std.specs.declared.option.Option.the-variants.{Some, None}
 use Rattle.fault.specs.declared.refusal.Fault.{Fault}
-use Rattle.fault.specs.declared.refusal.Refusal.the-variants.{UnitBusy}
+use Rattle.fault.specs.declared.refusal.Refusal.the-variants.{UnitBusy, NoMessage, LimitReached, Stopped}
 use Rattle.fault.specs.declared.place.TickPlace.{TickPlace}
 use Rattle.netcode.specs.declared.step.Step.{Step}
 use Rattle.netcode.specs.declared.step.Step.the-variants.{Test, Future, Halt, Call, Send, Receive, Keep, Clear, Give}
@@ -109,3 +109,177 @@ module _ (m : Model) where
         { plant = refl
         ; size = length-set (w .state .marks) row _
         ; counts = λ k l. count-written (w .state) row k _ _ _ l ∙ ap (λ (z : ℕ). markIn (w .state) k .count + z) (sym (one-time (called row (asked (stationOf program) work words)) k)) }
+
+  on-send : (o : Option ℕ) (row duration program address : ℕ) (w : World S) → StepTally (sent row ∷ []) w (real.sent m o row duration program address w)
+  on-send None row duration program address w = same w
+  on-send (Some word) row duration program address w = go (real.isBusy (w .state) program)
+    where
+      line : (x : Option Message) → StepTally (sent row ∷ []) w (real.onLine m x row word duration program address w)
+      line (Some message) = same w
+      line None = record
+        { plant = refl
+        ; size = length-set (w .state .marks) row _
+        ; counts = λ k l. count-written (w .state) row k _ _ _ l ∙ ap (λ (z : ℕ). markIn (w .state) k .count + z) (sym (one-time (sent row) k)) }
+      go : (b : Bool) → StepTally (sent row ∷ []) w (cond b (Stepped.refused (real.faultAt UnitBusy program address) w) (real.onLine m (w .state .line) row word duration program address w))
+      go true = same w
+      go false = line (w .state .line)
+
+  step-tally : (x : Step) (program address : ℕ) (w : World S) → StepTally (eventOf x program (w .state)) w (real.performed m x program address w)
+  step-tally (Test variable relation word to) program address w = held (wordIn (w .state) (stationOf program) variable)
+    where
+      way : (b : Bool) → StepTally [] w (cond b (onto (address + 1) w) (onto to w))
+      way true = same w
+      way false = same w
+      held : (o : Option ℕ) → StepTally [] w (real.tested m o relation word to program address w)
+      held None = same w
+      held (Some v) = way _
+  step-tally (Future ticks to) program address w = quiet w _ refl refl
+  step-tally Halt program address w = same w
+  step-tally (Call row work inputs output duration) program address w = on-call (inputWords inputs (wordIn (w .state) (stationOf program))) row work output duration program address w
+  step-tally (Send row variable duration) program address w = on-send (wordIn (w .state) (stationOf program) variable) row duration program address w
+  step-tally (Receive variable duration) program address w = go (real.isBusy (w .state) program)
+    where
+      go : (b : Bool) → StepTally [] w (cond b (Stepped.refused (real.faultAt UnitBusy program address) w) (onto (address + 1) (real.at w (real.withJob (w .state) program (Listen (w .state .granted + duration) variable address)))))
+      go true = same w
+      go false = quiet w _ refl refl
+  step-tally (Keep variable cell) program address w = go (wordIn (w .state) (stationOf program) variable)
+    where
+      go : (o : Option ℕ) → Tallied [] w (real.at w (real.keptFrom m o cell (w .state)))
+      go None = quiet w _ refl refl
+      go (Some v) = quiet w _ refl refl
+  step-tally Clear program address w = quiet w _ refl refl
+  step-tally (Give cell variable word) program address w = quiet w _ refl refl
+
+  -- What a turn or a tick comes to, granted or refused.
+  abbrev worldOf : Outcome S → World S
+  worldOf (Outcome.done v) = v
+  worldOf (Outcome.refused f v) = v
+
+  steps-tally : (n : ℕ) (code : List Step) (program address : ℕ) (w : World S) → Tallied (stepEvents m n code program address w) w (worldOf (real.steps m n code program address w))
+  unfolding stepEvents real.steps
+  steps-tally zero code program address w = same w
+  steps-tally (suc n) code program address w =
+      go (eventOf (getD code address Halt) program (w .state)) (real.performed m (getD code address Halt) program address w) (step-tally (getD code address Halt) program address w) (λ a v. steps-tally n code program a v)
+    where
+      go : (es : List Event) (st : Stepped S) → StepTally es w st
+          → ((a : ℕ) (v : World S) → Tallied (stepEvents m n code program a v) v (worldOf (real.steps m n code program a v)))
+          → Tallied (eventsOn m es st (stepEvents m n code program)) w (worldOf (real.onward m st (real.steps m n code program)))
+      go es (onto a v) t ih = then es (stepEvents m n code program a v) w v _ t (ih a v)
+      go es (halted v) t ih = t
+      go es (Stepped.refused f v) t ih = t
+
+  turn-tally : (code : List Step) (program : ℕ) (w : World S) → Tallied (turnEvents m code program w) w (worldOf (real.turn m code program w))
+  turn-tally code program w = go (real.dueAt m (real.unitIn (w .state) program .timer) (w .state .granted)) (real.isBusy (w .state) program)
+    where
+      a : ℕ
+      a = real.unitIn (w .state) program .address
+      u : World S
+      u = real.at w (real.withTimer (w .state) program None a)
+      go : (d b : Bool) → Tallied (cond d (cond b [] (stepEvents m (length code + 1) code program a u)) []) w
+          (worldOf (cond d (cond b (Outcome.refused (real.faultAt UnitBusy program a) w) (real.steps m (length code + 1) code program a u)) (Outcome.done w)))
+      go false b = same w
+      go true true = same w
+      go true false = then [] (stepEvents m (length code + 1) code program a u) w u _ (quiet w u refl refl) (steps-tally (length code + 1) code program a u)
+
+  ended-tally : (job : Job) (clock program : ℕ) (w : World S) → Tallied [] w (worldOf (real.ended m job clock program w))
+  ended-tally Idle clock program w = same w
+  ended-tally (Store end variable word) clock program w = go (eqb end clock)
+    where
+      go : (b : Bool) → Tallied [] w (worldOf (cond b (Outcome.done (real.stored m program variable word w)) (Outcome.done w)))
+      go true = quiet w _ refl refl
+      go false = same w
+  ended-tally (Carry end) clock program w = go (eqb end clock)
+    where
+      go : (b : Bool) → Tallied [] w (worldOf (cond b (Outcome.done (real.at w (real.withJob (w .state) program Idle))) (Outcome.done w)))
+      go true = quiet w _ refl refl
+      go false = same w
+  ended-tally (Listen end variable address) clock program w = go (eqb end clock)
+    where
+      heard : (o : Option Message) → Tallied [] w (worldOf (real.heard m o clock program variable address w))
+      heard None = same w
+      heard (Some x) = on (eqb (x .end) clock)
+        where
+          on : (b : Bool) → Tallied [] w (worldOf (cond b (Outcome.done (real.stored m program variable (x .word) w)) (Outcome.refused (real.faultAt NoMessage program address) w)))
+          on true = quiet w _ refl refl
+          on false = same w
+      go : (b : Bool) → Tallied [] w (worldOf (cond b (real.heard m (w .state .line) clock program variable address w) (Outcome.done w)))
+      go true = heard (w .state .line)
+      go false = same w
+
+  module _ (programs : List (List Step)) where
+    first-tally : (n : ℕ) (w : World S) → Tallied (firstEvents m programs n w) w (worldOf (real.firstPart m programs n w))
+    unfolding firstEvents real.firstPart
+    first-tally zero w = same w
+    first-tally (suc n) w = go (real.firstPart m programs n w) (first-tally n w)
+      where
+        go : (o : Outcome S) → Tallied (firstEvents m programs n w) w (worldOf o)
+            → Tallied (firstEvents m programs n w ++ eventsThen m o (turnEvents m (getD programs n []) n)) w (worldOf (real.andThen o (real.turn m (getD programs n []) n)))
+        go (Outcome.done v) t = then (firstEvents m programs n w) (turnEvents m (getD programs n []) n v) w v _ t (turn-tally (getD programs n []) n v)
+        go (Outcome.refused f v) t = then (firstEvents m programs n w) [] w v v t (same v)
+
+    second-tally : (clock n : ℕ) (w : World S) → Tallied [] w (worldOf (real.secondPart m programs clock n w))
+    unfolding real.secondPart
+    second-tally clock zero w = same w
+    second-tally clock (suc n) w = go (real.secondPart m programs clock n w) (second-tally clock n w)
+      where
+        go : (o : Outcome S) → Tallied [] w (worldOf o) → Tallied [] w (worldOf (real.andThen o (λ v. real.ended m (real.unitIn (v .state) n .job) clock n v)))
+        go (Outcome.done v) t = then [] [] w v _ t (ended-tally (real.unitIn (v .state) n .job) clock n v)
+        go (Outcome.refused f v) t = t
+
+    parts-tally : (w : World S) → Tallied (firstEvents m programs (length programs) w) w (worldOf (real.parts m programs w))
+    parts-tally w = go (real.firstPart m programs (length programs) w) (first-tally (length programs) w)
+      where
+        es : List Event
+        es = firstEvents m programs (length programs) w
+        c : ℕ
+        c = w .state .granted + 1
+        more : World S → Outcome S
+        more v = real.andThen (real.secondPart m programs c (length programs) v) (λ u. Outcome.done (real.leaves m c u))
+        last : (v : World S) (o : Outcome S) → Tallied [] v (worldOf o) → Tallied [] v (worldOf (real.andThen o (λ u. Outcome.done (real.leaves m c u))))
+        last v (Outcome.done u) t = then [] [] v u _ t (quiet u _ refl refl)
+        last v (Outcome.refused f u) t = t
+        go : (o : Outcome S) → Tallied es w (worldOf o) → Tallied es w (worldOf (real.andThen o more))
+        go (Outcome.done v) t = subst (λ (xs : List Event). Tallied xs w (worldOf (more v))) (append-nil es)
+            (then es [] w v _ t (last v (real.secondPart m programs c (length programs) v) (second-tally c (length programs) v)))
+        go (Outcome.refused f v) t = t
+
+    tick-tally : (w : World S) → Tallied (tickEvents m programs w) w (worldOf (real.tick m programs w))
+    tick-tally w = go (w .state .stopped) (ltb (w .state .granted) real.limit)
+      where
+        es : List Event
+        es = firstEvents m programs (length programs) w
+        count : (o : Outcome S) → Tallied es w (worldOf o) → Tallied es w (worldOf (real.counted m programs (w .state .granted) o))
+        count (Outcome.done v) t = subst (λ (xs : List Event). Tallied xs w (real.at v (real.withGranted (v .state) (w .state .granted + 1)))) (append-nil es) (then es [] w v _ t (quiet v _ refl refl))
+        count (Outcome.refused f v) t = subst (λ (xs : List Event). Tallied xs w (real.at v (real.withStopped (v .state)))) (append-nil es) (then es [] w v _ t (quiet v _ refl refl))
+        go : (s l : Bool) → Tallied (cond s [] (cond l es [])) w
+            (worldOf (cond s (Outcome.refused (real.ofTheRun Stopped) w) (cond l (real.counted m programs (w .state .granted) (real.parts m programs w)) (Outcome.refused (real.ofTheRun LimitReached) w))))
+        go true l = same w
+        go false false = same w
+        go false true = count (real.parts m programs w) (parts-tally w)
+
+    rehearsal-tally : (n : ℕ) (w : World S) → Tallied (rehearsalEvents m programs n w) w (rehearsed m programs n w .world)
+    unfolding rehearsalEvents rehearsed
+    rehearsal-tally zero w = same w
+    rehearsal-tally (suc n) w = go (real.tick m programs w) (tick-tally w) (λ v. rehearsal-tally n v)
+      where
+        es : List Event
+        es = tickEvents m programs w
+        go : (o : Outcome S) → Tallied es w (worldOf o) → ((v : World S) → Tallied (rehearsalEvents m programs n v) v (rehearsed m programs n v .world))
+            → Tallied (es ++ eventsThen m o (rehearsalEvents m programs n)) w (rehearsedOn m programs o (rehearsed m programs n) .world)
+        go (Outcome.done v) t ih = then es (rehearsalEvents m programs n v) w v _ t (ih v)
+        go (Outcome.refused f v) t ih = then es [] w v v t (same v)
+
+    request-tally : (r : Request) (w : World S) → Tallied (requestEvents m programs r w) w (served m programs r w .world)
+    request-tally Tick w = go (real.tick m programs w) (tick-tally w)
+      where
+        go : (o : Outcome S) → Tallied (tickEvents m programs w) w (worldOf o) → Tallied (tickEvents m programs w) w (ticked m programs o .world)
+        go (Outcome.done v) t = t
+        go (Outcome.refused f v) t = t
+    request-tally (Rehearse n) w = rehearsal-tally n w
+    request-tally (WordAt station variable) w = same w
+    request-tally (MarkAt row) w = same w
+
+    pub requests-tally : (rs : List Request) (w : World S) → Tallied (events m programs rs w) w (servedAll m programs rs w .world)
+    unfolding events servedAll
+    requests-tally [] w = same w
+    requests-tally (r ∷ rs) w = then (requestEvents m programs r w) (events m programs rs (served m programs r w .world)) w (served m programs r w .world) _ (request-tally r w) (requests-tally rs (served m programs r w .world))

@@ -1,9 +1,10 @@
 -- Laws of the machine, above any plant and for any programs.
 use mathlib.Core.Path.{_≡_}
-use mathlib.Core.Bool.{true, false}
+use mathlib.Core.Bool.{true, false, cond}
 use mathlib.Core.Logic.{_⊎_}
 use mathlib.Core.List.{List, [], _∷_, _++_}
 use Prim.Native.Nat.{ℕ, zero, suc, _≤_, _<_}
+use lib.Dec.{eqb}
 use Rattle.std.specs.declared.option.Option.{Option}
 use Rattle.std.specs.declared.option.Option.the-variants.{Some, None}
 use Rattle.fault.specs.declared.refusal.Fault.{Fault}
@@ -14,8 +15,10 @@ use Rattle.plant.specs.Model.{Model}
 use Rattle.semantics.specs.declared.state.Request.{Request}
 use Rattle.semantics.specs.declared.state.Request.the-variants.{WordAt, MarkAt}
 use Rattle.semantics.specs.declared.state.Reply.{Reply}
-use Rattle.semantics.specs.Machine.{World, Outcome, limit, ofTheRun, tick}
-use Rattle.semantics.specs.Requests.{Rehearsal, rehearsed, served, servedAll}
+use Rattle.semantics.specs.declared.state.Message.{Message}
+use Rattle.semantics.specs.Machine.{World, Outcome, limit, markIn, ofTheRun, tick}
+use Rattle.semantics.specs.Requests.{Rehearsal, rehearsed, served, servedAll, atMaking, afterRequests}
+use Rattle.semantics.specs.Events.{plantAfter, timesOf, events}
 
 module _ (m : Model) (programs : List (List Step)) where
   -- So many granted ticks lead from one world to another.
@@ -45,6 +48,14 @@ module _ (m : Model) (programs : List (List Step)) where
     -- Word-at and mark-at change nothing.
     pub word-at : (w : World (m .State)) (station variable : ℕ) → served m programs (WordAt station variable) w .world ≡ w
     pub mark-at : (w : World (m .State)) (row : ℕ) → served m programs (MarkAt row) w .world ≡ w
+    -- The plant's state is what the performed calls leave, and a row's count is how often the row was performed.
+    pub plant : (start : m .State) (rs : List Request)
+        → afterRequests m programs start rs .plant ≡ plantAfter m start (events m programs rs (atMaking m programs start))
+    pub counts : (start : m .State) (rs : List Request) (row : ℕ) → row < 128
+        → markIn (afterRequests m programs start rs .state) row .count ≡ timesOf row (events m programs rs (atMaking m programs start))
+    -- A message stays on the line in every granted tick but the one that it ends with, in which it leaves.
+    pub line : (w v : World (m .State)) (message : Message) → tick m programs w ≡ Outcome.done v → w .state .line ≡ Some message
+        → v .state .line ≡ cond (eqb (message .end) (v .state .granted)) None (Some message)
     -- A list of requests goes on where the one before it ended.
     pub on : (rs ss : List Request) (w : World (m .State))
         → (servedAll m programs (rs ++ ss) w .world ≡ servedAll m programs ss (servedAll m programs rs w .world) .world)

@@ -1,7 +1,7 @@
 pub mod Reading
 pub mod Machine
 pub mod Requests
+pub mod Events
+pub mod Laws
 pub mod Worked
 pub mod Promise
-pub mod Laws
-pub mod Events
