@@ -41,6 +41,7 @@ module _ (m : Model) (programs : List (List Step)) where
         where
           x : Rehearsal S
           x = rehearsed m programs n v
+
           on : Rehearses m programs n v x → Rehearses m programs (suc n) w (rehearsedOn m programs (Outcome.done v) (rehearsed m programs n))
           on (inl (a, b, c)) = inl (a, add-one (x .count) ∙ ap suc b, (v, e, c))
           on (inr (f, u, a, b, c, d)) = inr (f, u, a, omega arith, subst (λ (k : ℕ). Leads m programs k w u) (sym (add-one (x .count))) (v, e, c), d)
@@ -70,6 +71,7 @@ module _ (m : Model) (programs : List (List Step)) where
       inner : (o : Outcome S) → counted m programs (w .state .granted) o ≡ Outcome.refused f v → v .state .stopped ≡ true
       inner (Outcome.done u) q = absurd (let z : _≡_ {A = ℕ} 0 1 = cc in omega arith)
       inner (Outcome.refused g u) q = let y : v ≡ at u (withStopped (u .state)) = cc in ap (λ (x : World S). x .state .stopped) y
+
       stop : v .state .stopped ≡ true
       stop = inner (parts m programs w) (sym (cond-false _ _ _ e ∙ cond-true _ _ _ (lt-ltb (w .state .granted) limit l)) ∙ h)
 
@@ -84,19 +86,20 @@ module _ (m : Model) (programs : List (List Step)) where
   on-replies (r ∷ rs) ss w = ap (λ (xs : List Reply). served m programs r w .reply ∷ xs) (on-replies rs ss (served m programs r w .world))
 
   machine-laws : Machine-laws m programs
-  machine-laws = record
-    { rehearsals = rehearses
-    ; stopped = stopped
-    ; full = λ w e l. cond-false _ _ _ e ∙ cond-false _ _ _ (le-ltb (w .state .granted) limit l)
-    ; ended = ended
-    ; word-at = λ w s v. refl
-    ; mark-at = λ w r. refl
-    ; plant = λ start rs. requests-tally m programs rs (atMaking m programs start) .plant
-    ; counts = λ start rs row l.
+  machine-laws = record {
+    rehearsals = rehearses;
+    stopped = stopped;
+    full = λ w e l. cond-false _ _ _ e ∙ cond-false _ _ _ (le-ltb (w .state .granted) limit l);
+    ended = ended;
+    word-at = λ w s v. refl;
+    mark-at = λ w r. refl;
+    plant = λ start rs. requests-tally m programs rs (atMaking m programs start) .plant;
+    counts = λ start rs row l.
         requests-tally m programs rs (atMaking m programs start) .counts row (let e = length-replicate 128 blankMark in omega arith)
-        ∙ (let e : markIn newState row .count ≡ 0 = ap (λ (x : Mark). x .count) (getD-replicate 128 row blankMark blankMark l) in omega arith)
-    ; line = line-stays m programs
-    ; on = λ rs ss w. (on-world rs ss w, on-replies rs ss w) }
+        ∙ (let e : markIn newState row .count ≡ 0 = ap (λ (x : Mark). x .count) (getD-replicate 128 row blankMark blankMark l) in omega arith);
+    line = line-stays m programs;
+    on = λ rs ss w. (on-world rs ss w, on-replies rs ss w);
+  }
 
 pub laws-stand : (m : Model) → Laws-stand m
 laws-stand m programs = machine-laws m programs

@@ -63,6 +63,7 @@ module _ (m : Model) where
       line : (x : Option Message) → w .state .line ≡ x → StepStays w (real.onLine m x row word duration program address w)
       line (Some message) e = same w
       line None e = record { line = λ x q. absurd (let z : _≡_ {A = ℕ} 0 1 = cc in omega arith); clock = refl }
+
       go : (b : Bool) → StepStays w (cond b (Stepped.refused (real.faultAt UnitBusy program address) w) (real.onLine m (w .state .line) row word duration program address w))
       go true = same w
       go false = line (w .state .line) refl
@@ -73,6 +74,7 @@ module _ (m : Model) where
       way : (b : Bool) → StepStays w (cond b (onto (address + 1) w) (onto to w))
       way true = same w
       way false = same w
+
       held : (o : Option ℕ) → StepStays w (real.tested m o relation word to program address w)
       held None = same w
       held (Some v) = way _
@@ -112,8 +114,10 @@ module _ (m : Model) where
     where
       a : ℕ
       a = real.unitIn (w .state) program .address
+
       u : World S
       u = real.at w (real.withTimer (w .state) program None a)
+
       go : (d b : Bool) → Stays w (worldOf (cond d (cond b (Outcome.refused (real.faultAt UnitBusy program a) w) (real.steps m (length code + 1) code program a u)) (Outcome.done w)))
       go false b = same w
       go true true = same w
@@ -140,6 +144,7 @@ module _ (m : Model) where
           on : (b : Bool) → Stays w (worldOf (cond b (Outcome.done (real.stored m program variable (x .word) w)) (Outcome.refused (real.faultAt NoMessage program address) w)))
           on true = still w _ refl refl
           on false = same w
+
       go : (b : Bool) → Stays w (worldOf (cond b (real.heard m (w .state .line) clock program variable address w) (Outcome.done w)))
       go true = heard (w .state .line)
       go false = same w
@@ -175,20 +180,25 @@ module _ (m : Model) where
       where
         c : ℕ
         c = w .state .granted + 1
+
         end : World S → World S
         end u = real.at (real.leaves m c u) (real.withGranted (real.leaves m c u .state) c)
+
         there : (u : World S) → u .state .line ≡ Some x → end u ≡ v → v .state .line ≡ cond (eqb (x .end) (v .state .granted)) None (Some x)
         there u q z = subst (λ (y : World S). y .state .line ≡ cond (eqb (x .end) (y .state .granted)) None (Some x)) z (ap (λ (o : Option Message). real.left m o c) q)
+
         two : (u : World S) (o : Outcome S) → u .state .line ≡ Some x → Stays u (worldOf o)
             → real.counted m programs (w .state .granted) (real.andThen o (λ u. Outcome.done (real.leaves m c u))) ≡ Outcome.done v
             → v .state .line ≡ cond (eqb (x .end) (v .state .granted)) None (Some x)
         two u (Outcome.done y) q t k = there y (t .line x q) (done-same (end y) v k)
         two u (Outcome.refused f y) q t k = never (real.at y (real.withStopped (y .state))) v f k
+
         one : (o : Outcome S) → Stays w (worldOf o)
             → real.counted m programs (w .state .granted) (real.andThen o (λ u. real.andThen (real.secondPart m programs c (length programs) u) (λ u. Outcome.done (real.leaves m c u)))) ≡ Outcome.done v
             → v .state .line ≡ cond (eqb (x .end) (v .state .granted)) None (Some x)
         one (Outcome.done u) t k = two u (real.secondPart m programs c (length programs) u) (t .line x e) (second-stays c (length programs) u) k
         one (Outcome.refused f y) t k = never (real.at y (real.withStopped (y .state))) v f k
+
         go : (s l : Bool) → cond s (Outcome.refused (real.ofTheRun Stopped) w) (cond l (real.counted m programs (w .state .granted) (real.parts m programs w)) (Outcome.refused (real.ofTheRun LimitReached) w)) ≡ Outcome.done v
             → v .state .line ≡ cond (eqb (x .end) (v .state .granted)) None (Some x)
         go true l k = never w v (real.ofTheRun Stopped) k

@@ -86,5 +86,6 @@ module _ (r : ℕ → Row) (n L : ℕ) (kp : ℕ → Keep) (nk j : ℕ) where
       rest : (q : Bool) (x : Step) → Own x → Each Own (cond q [] (x ∷ Step.halt ∷ []))
       rest true x o = tt
       rest false x o = (o, (tt, tt))
+
       first : Each Own (opening h (headOf kp nk j))
       first = each-append Own (headOf kp nk j) _ (plain-each (headOf kp nk j) (head-plain kp nk j)) (rest (isDate h 0) _ tt)

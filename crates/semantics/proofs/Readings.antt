@@ -58,9 +58,19 @@ tests-same (t ∷ ts) at p e = ap₂ (λ (x y : Bool). x && y) (test-same t (at 
 
 -- A call with its inputs.
 abbrev called : Call → Inputs → Planned
-called c i = record
-  { sends = false; st = c .station; work = c .work; count = inputCount i; one = firstInput i; two = secondInput i
-  ; out = c .output; listeners = λ n. false; date = c .date; dur = c .duration; tests = asTests (testsOf (c .condition)) }
+called c i = record {
+  sends = false;
+  st = c .station;
+  work = c .work;
+  count = inputCount i;
+  one = firstInput i;
+  two = secondInput i;
+  out = c .output;
+  listeners = λ n. false;
+  date = c .date;
+  dur = c .duration;
+  tests = asTests (testsOf (c .condition));
+}
 
 work-same : (c : Call) (i : Inputs) (at : ℕ → Option ℕ) (p : PlannedPlaces) → ((v : ℕ) → at v ≡ p (c .station) v) → workOf c i at ≡ asked (called c i) p
 work-same c Nothing at p e = refl
@@ -108,12 +118,16 @@ module _ (m : Model) where
     where
       row : Planned
       row = asRow (callRow c)
+
       go : (q t : Bool) → q ≡ t → NowAlike (cond q (performed m (callRow c) a) a)
-          (record { places = λ s v. cond (t && (eqb (c .station) s && eqb (c .output) v)) (Some (guarded m (b .plant) (asked row (b .places)))) (b .places s v)
-                  ; plant = cond (t && true) (leaves m (b .plant) (asked row (b .places))) (b .plant) })
-      go true true e = record
-        { places = λ s v. ap₂ (λ (o p : Option ℕ). cond (eqb (c .station) s && eqb (c .output) v) o p) (ap Some (given-same c a b (kn c refl) al)) (al .places s v)
-        ; plant = ap₂ (λ (p : S) (w : Work). m .next p w) (al .plant) (work-same c (c .inputs) (a .places (c .station)) (b .places) (al .places (c .station))) ∙ sym (cond-true _ _ _ (kn c refl)) }
+          (record {
+            places = λ s v. cond (t && (eqb (c .station) s && eqb (c .output) v)) (Some (guarded m (b .plant) (asked row (b .places)))) (b .places s v);
+            plant = cond (t && true) (leaves m (b .plant) (asked row (b .places))) (b .plant);
+          })
+      go true true e = record {
+        places = λ s v. ap₂ (λ (o p : Option ℕ). cond (eqb (c .station) s && eqb (c .output) v) o p) (ap Some (given-same c a b (kn c refl) al)) (al .places s v);
+        plant = ap₂ (λ (p : S) (w : Work). m .next p w) (al .plant) (work-same c (c .inputs) (a .places (c .station)) (b .places) (al .places (c .station))) ∙ sym (cond-true _ _ _ (kn c refl));
+      }
       go false false e = record { places = al .places; plant = al .plant }
       go true false e = absurd (both-ways true e refl)
       go false true e = absurd (both-ways false refl e)
@@ -121,12 +135,16 @@ module _ (m : Model) where
     where
       row : Planned
       row = asRow (sendRow c)
+
       go : (q t : Bool) → q ≡ t → NowAlike (cond q (performed m (sendRow c) a) a)
-          (record { places = λ s v. cond (t && (listens c s && eqb (c .variable) v)) (Some (plannedWord (b .places (c .station) (c .variable)))) (b .places s v)
-                  ; plant = cond (t && false) (leaves m (b .plant) (asked row (b .places))) (b .plant) })
-      go true true e = record
-        { places = λ s v. ap₂ (λ (o p : Option ℕ). cond (listens c s && eqb (c .variable) v) o p) (ap Some (word-same (a .places (c .station) (c .variable)) ∙ ap plannedWord (al .places (c .station) (c .variable)))) (al .places s v)
-        ; plant = al .plant }
+          (record {
+            places = λ s v. cond (t && (listens c s && eqb (c .variable) v)) (Some (plannedWord (b .places (c .station) (c .variable)))) (b .places s v);
+            plant = cond (t && false) (leaves m (b .plant) (asked row (b .places))) (b .plant);
+          })
+      go true true e = record {
+        places = λ s v. ap₂ (λ (o p : Option ℕ). cond (listens c s && eqb (c .variable) v) o p) (ap Some (word-same (a .places (c .station) (c .variable)) ∙ ap plannedWord (al .places (c .station) (c .variable)))) (al .places s v);
+        plant = al .plant;
+      }
       go false false e = record { places = al .places; plant = al .plant }
       go true false e = absurd (both-ways true e refl)
       go false true e = absurd (both-ways false refl e)
@@ -145,14 +163,16 @@ module _ (m : Model) where
   words-same : (x : Row) (a : Now S) (b : PlannedNow S) → isKeep x ≡ false → Known x → NowAlike a b → WordsAlike x a b
   unfolding Known
   words-same (keepRow k) a b nk kn al = absurd (both-ways true nk refl)
-  words-same (callRow c) a b nk kn al = record
-    { first = first-same c (c .inputs) (a .places (c .station)) (b .places) (al .places (c .station))
-    ; second = second-same c (c .inputs) (a .places (c .station)) (b .places) (al .places (c .station))
-    ; given = ap Some (given-same c a b (kn c refl) al) }
-  words-same (sendRow s) a b nk kn al = record
-    { first = ap Some (word-same (a .places (s .station) (s .variable)) ∙ ap plannedWord (al .places (s .station) (s .variable)))
-    ; second = refl
-    ; given = ap Some (word-same (a .places (s .station) (s .variable)) ∙ ap plannedWord (al .places (s .station) (s .variable))) }
+  words-same (callRow c) a b nk kn al = record {
+    first = first-same c (c .inputs) (a .places (c .station)) (b .places) (al .places (c .station));
+    second = second-same c (c .inputs) (a .places (c .station)) (b .places) (al .places (c .station));
+    given = ap Some (given-same c a b (kn c refl) al);
+  }
+  words-same (sendRow s) a b nk kn al = record {
+    first = ap Some (word-same (a .places (s .station) (s .variable)) ∙ ap plannedWord (al .places (s .station) (s .variable)));
+    second = refl;
+    given = ap Some (word-same (a .places (s .station) (s .variable)) ∙ ap plannedWord (al .places (s .station) (s .variable)));
+  }
 
   module _ (h-cycle : ℕ) (rows : List Row) (ordered : Ordered h-cycle rows) (known : KnowsEach m rows) where
     abbrev r : ℕ → Planned
@@ -239,6 +259,7 @@ module _ (m : Model) where
       where
         few : nk ≤ length rows
         few = keep-few rows
+
         go : (i < nk) ⊎ (nk ≤ i) → keptCells rows p c i ≡ cellsOf (keepsOf rows) nk q d i
         go (inl l) = cond-true _ _ _ (lt-ltb i (length rows) (omega (arith, few))) ∙ keeps-same (rowAt rows i) p q (c i) (d i) (keep-front rows i l) f (g i) ∙ sym (cond-true _ _ _ (lt-ltb i nk l))
         go (inr l) = on (cases-lt i (length rows)) ∙ g i ∙ sym (cond-false _ _ _ (le-ltb i nk l))
@@ -254,9 +275,10 @@ module _ (m : Model) where
       pub plant : x .plant ≡ y .plant
 
     begins-alike : (x : Reading S) (y : planned.Reading S) → ReadingAlike x y → NowAlike (begins m rows x) (planned.begins (leaves m) (guarded m) r n (keepsOf rows) nk y)
-    begins-alike x y al = record
-      { places = given-all (keptCells rows (x .places) (x .cells)) (cellsOf (keepsOf rows) nk (y .places) (y .cells)) (cells-same (x .places) (y .places) (x .cells) (y .cells) (al .places) (al .cells))
-      ; plant = al .plant }
+    begins-alike x y al = record {
+      places = given-all (keptCells rows (x .places) (x .cells)) (cellsOf (keepsOf rows) nk (y .places) (y .cells)) (cells-same (x .places) (y .places) (x .cells) (y .cells) (al .places) (al .cells));
+      plant = al .plant;
+    }
 
     pub cycles-alike : (start : S) (q : ℕ) → ReadingAlike (afterCycles m rows start q) (planned.afterCycles (leaves m) (guarded m) r n (keepsOf rows) nk start q)
     unfolding afterCycles planned.afterCycles
@@ -265,8 +287,10 @@ module _ (m : Model) where
       where
         x : Reading S
         x = afterCycles m rows start q
+
         y : planned.Reading S
         y = planned.afterCycles (leaves m) (guarded m) r n (keepsOf rows) nk start q
+
         next : ReadingAlike x y → ReadingAlike (cycle m rows x) (planned.cycle (leaves m) (guarded m) r n (keepsOf rows) nk y)
         next al = record { places = done .places; cells = cells-same (x .places) (y .places) (x .cells) (y .cells) (al .places) (al .cells); plant = done .plant }
           where

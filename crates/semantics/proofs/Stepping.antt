@@ -47,9 +47,19 @@ never x e = absurd (let z : _≡_ {A = ℕ} 0 1 = cc in omega arith)
 
 -- A call with its inputs.
 abbrev planned : Call → Inputs → Planned
-planned c i = record
-  { sends = false; st = c .station; work = c .work; count = inputCount i; one = firstInput i; two = secondInput i
-  ; out = c .output; listeners = λ n. false; date = c .date; dur = c .duration; tests = asTests (testsOf (c .condition)) }
+planned c i = record {
+  sends = false;
+  st = c .station;
+  work = c .work;
+  count = inputCount i;
+  one = firstInput i;
+  two = secondInput i;
+  out = c .output;
+  listeners = λ n. false;
+  date = c .date;
+  dur = c .duration;
+  tests = asTests (testsOf (c .condition));
+}
 
 record Ready (c : Call) (i : Inputs) (at : ℕ → Option ℕ) (pl : Places) : Type 0 where
   words : Words
@@ -65,10 +75,14 @@ ready c noInput at pl same l1 l2 h = record { words = Nothing; is = refl; asks =
 ready c (oneInput a) at pl same l1 l2 h = go (at a) (pl (c .station) a) refl refl (same a (l1 (omega arith)))
   where
     go : (o p : Option ℕ) → at a ≡ o → pl (c .station) a ≡ p → o ≡ p → Ready c (oneInput a) at pl
-    go (Some v) (Some u) e f g = record
-      { words = Single v; is = ap real.oneWord e
-      ; asks = ap (λ (z : ℕ). record { station = c .station; number = c .work; count = 1; first = z; second = 0 }) vu
-      ; first = ap Some vu; second = refl; count = refl }
+    go (Some v) (Some u) e f g = record {
+      words = Single v;
+      is = ap real.oneWord e;
+      asks = ap (λ (z : ℕ). record { station = c .station; number = c .work; count = 1; first = z; second = 0 }) vu;
+      first = ap Some vu;
+      second = refl;
+      count = refl;
+    }
       where
         vu : v ≡ wordOf (pl (c .station) a)
         vu = let q : v ≡ u = cc in q ∙ sym (ap wordOf f)
@@ -77,13 +91,18 @@ ready c (oneInput a) at pl same l1 l2 h = go (at a) (pl (c .station) a) refl ref
 ready c (twoInputs a d) at pl same l1 l2 h = go (at a) (pl (c .station) a) (at d) (pl (c .station) d) refl refl (same a (l1 (omega arith))) refl refl (same d (l2 (omega arith)))
   where
     go : (o p q s : Option ℕ) → at a ≡ o → pl (c .station) a ≡ p → o ≡ p → at d ≡ q → pl (c .station) d ≡ s → q ≡ s → Ready c (twoInputs a d) at pl
-    go (Some v) (Some u) (Some x) (Some y) e f g e2 f2 g2 = record
-      { words = Pair v x; is = ap₂ real.twoWords e e2
-      ; asks = ap₂ (λ (z t : ℕ). record { station = c .station; number = c .work; count = 2; first = z; second = t }) vu xy
-      ; first = ap Some vu; second = ap Some xy; count = refl }
+    go (Some v) (Some u) (Some x) (Some y) e f g e2 f2 g2 = record {
+      words = Pair v x;
+      is = ap₂ real.twoWords e e2;
+      asks = ap₂ (λ (z t : ℕ). record { station = c .station; number = c .work; count = 2; first = z; second = t }) vu xy;
+      first = ap Some vu;
+      second = ap Some xy;
+      count = refl;
+    }
       where
         vu : v ≡ wordOf (pl (c .station) a)
         vu = let q : v ≡ u = cc in q ∙ sym (ap wordOf f)
+
         xy : x ≡ wordOf (pl (c .station) d)
         xy = let q : x ≡ y = cc in q ∙ sym (ap wordOf f2)
     go None p q s e f g e2 f2 g2 = absurd (both-ways true (sym h ∙ ap (λ (z : Option ℕ). (false || not (isNone z)) && (false || not (isNone (pl (c .station) d)))) (f ∙ sym g)) refl)
@@ -195,6 +214,7 @@ module _ (m : Model) (rows : List Row) (L : ℕ) where
           where
             vu : v ≡ u
             vu = cc
+
             way : (x y : Bool) → x ≡ y → tested e (Some y) pc a go b ≡ Some c → Leads b w go c (cond x (onto (pc + 1) w) (onto a w))
             way true true f k = inr (pc + 1, b, w, refl, next-address pc go b c k, al, g)
             way false false f k = inr (a, b, w, refl, k, al, g)
@@ -221,39 +241,58 @@ module _ (m : Model) (rows : List Row) (L : ℕ) where
         → k < n → mine j (r k) ≡ true → Same late b w → Going T (w .state) → guards k b ≡ true → go (suc pc) (begun k b) ≡ Some c
         → Leads b w go c (real.called m (inputWords (cl .inputs) (wordIn (w .state) (j / 2))) (nk + k) (cl .work) (cl .output) (cl .duration) j pc w)
     on-call k pc go b c w cl ex lk mi al g gd h =
-        inr (pc + 1, begun k b, real.answered m (nk + k) (cl .work) (rd .words) (cl .output) (cl .duration) j w, performed, next-address pc go (begun k b) c h, alike,
-        record { granted = g .granted; going = g .going })
+        inr (
+          pc + 1,
+          begun k b,
+          real.answered m (nk + k) (cl .work) (rd .words) (cl .output) (cl .duration) j w,
+          performed,
+          next-address pc go (begun k b) c h,
+          alike,
+          record { granted = g .granted; going = g .going },
+        )
       where
         rk : r k ≡ asRow (callRow cl)
         rk = ap asRow ex
+
         sf : r k .sends ≡ false
         sf = ap (λ (x : Planned). x .sends) rk
+
         cu : (isLine j ≡ false) × (r k .st ≡ j / 2)
         cu = call-unit j (r k) sf mi
+
         st : j / 2 ≡ cl .station
         st = sym (cu .1) ∙ ap (λ (x : Planned). x .st) rk
+
         ow : owns m r n L (keepsOf rows) nk j k ≡ true
         ow = let e = even j (cu .0) in let z : cond {A = ℕ} (r k .sends) 1 0 ≡ 0 = ap (λ (d : Bool). cond {A = ℕ} d 1 0) sf in let q = cu .1 in eq-eqb _ _ (omega arith)
+
         gp : (isNone (b .units j .busy) ≡ true) × (owns m r n L (keepsOf rows) nk j k ≡ true → (present (r k) (b .places) ≡ true) × (cond (r k .sends) (isNone (b .line)) (m .known (r k .st) (r k .work) (r k .count)) ≡ true))
         gp = both-parts (isNone (b .units j .busy)) (owns m r n L (keepsOf rows) nk j k) (present (r k) (b .places)) _ gd
+
         kn : m .known (r k .st) (r k .work) (r k .count) ≡ true
         kn = sym (cond-false _ _ _ sf) ∙ gp .1 ow .1
+
         rd : Ready cl (cl .inputs) (wordIn (w .state) (j / 2)) (b .places)
         rd = ready cl (cl .inputs) (wordIn (w .state) (j / 2)) (b .places)
             (λ x l. al .places (j / 2) x ls l ∙ ap (λ (z : ℕ). b .places z x) st)
             (subst (λ (x : Planned). 0 < x .count → x .one < 64) rk (row-fine k lk .first))
             (subst (λ (x : Planned). 1 < x .count → x .two < 64) rk (row-fine k lk .second))
             (sym (ap (λ (x : Planned). present x (b .places)) rk) ∙ gp .1 ow .0)
+
         free : isBusy (w .state) j ≡ false
         free = idle (b .units j .busy) (unitIn (w .state) j .job) (al .units j lj .job) (gp .0)
+
         known : m .known (j / 2) (cl .work) (countOf (rd .words)) ≡ true
         known = ap₂ (λ (x y : ℕ). m .known x (cl .work) y) st (rd .count) ∙ sym (ap (λ (x : Planned). m .known (x .st) (x .work) (x .count)) rk) ∙ kn
+
         performed : real.called m (inputWords (cl .inputs) (wordIn (w .state) (j / 2))) (nk + k) (cl .work) (cl .output) (cl .duration) j pc w
             ≡ onto (pc + 1) (real.answered m (nk + k) (cl .work) (rd .words) (cl .output) (cl .duration) j w)
         performed = ap (λ (o : Option Words). real.called m o (nk + k) (cl .work) (cl .output) (cl .duration) j pc w) (rd .is)
             ∙ cond-false _ _ _ free ∙ cond-true _ _ _ known
+
         asks : asked (j / 2) (r k .work) (rd .words) ≡ askedOf (r k) (b .places)
         asks = ap₂ (λ (x y : ℕ). asked x y (rd .words)) st (ap (λ (x : Planned). x .work) rk) ∙ rd .asks ∙ sym (ap (λ (x : Planned). askedOf x (b .places)) rk)
+
         alike : Same late (begun k b) (real.answered m (nk + k) (cl .work) (rd .words) (cl .output) (cl .duration) j w)
         alike = as-begun k b _ true false ow sf
             (subst (λ (x : Planned). Same late (begunBy m r n L (keepsOf rows) nk true false j k T b) (real.answered m (nk + k) (x .work) (rd .words) (x .out) (x .dur) j w)) rk
@@ -268,16 +307,22 @@ module _ (m : Model) (rows : List Row) (L : ℕ) where
       where
         rk : r k ≡ asRow (sendRow s)
         rk = ap asRow ex
+
         sf : r k .sends ≡ true
         sf = ap (λ (x : Planned). x .sends) rk
+
         st : r k .st ≡ s .station
         st = ap (λ (x : Planned). x .st) rk
+
         il : isLine j ≡ true
         il = send-unit j (r k) sf mi
+
         one-more : cond {A = ℕ} (r k .sends) 1 0 ≡ 1
         one-more = ap (λ (d : Bool). cond {A = ℕ} d 1 0) sf
+
         gp : (isNone (b .units j .busy) ≡ true) × (owns m r n L (keepsOf rows) nk j k ≡ true → (present (r k) (b .places) ≡ true) × (cond (r k .sends) (isNone (b .line)) (m .known (r k .st) (r k .work) (r k .count)) ≡ true))
         gp = both-parts (isNone (b .units j .busy)) (owns m r n L (keepsOf rows) nk j k) (present (r k) (b .places)) _ gd
+
         free : isBusy (w .state) j ≡ false
         free = idle (b .units j .busy) (unitIn (w .state) j .job) (al .units j lj .job) (gp .0)
 
@@ -293,10 +338,13 @@ module _ (m : Model) (rows : List Row) (L : ℕ) where
           where
             line : isNone (b .line) ≡ true
             line = sym (cond-true _ _ _ sf) ∙ gp .1 ow .1
+
             performed : real.sent m (Some v) (nk + k) (s .duration) j pc w ≡ onto (pc + 1) (real.carried m (nk + k) v (s .duration) j w)
             performed = cond-false _ _ _ free ∙ ap (λ (x : Option Message). real.onLine m x (nk + k) v (s .duration) j pc w) (al .line) ∙ quiet (b .line) v line
+
             word : v ≡ word1 (r k) (b .places)
             word = ap wordOf (e ∙ sym f) ∙ sym (ap (λ (x : Planned). word1 x (b .places)) rk)
+
             alike : Same late (begun k b) (real.carried m (nk + k) v (s .duration) j w)
             alike = as-begun k b _ true true ow sf
                 (subst (λ (x : Planned). Same late (begunBy m r n L (keepsOf rows) nk true true j k T b) (real.carried m (nk + k) v (x .dur) j w)) rk
@@ -332,6 +380,7 @@ module _ (m : Model) (rows : List Row) (L : ℕ) where
         kinds gd hc (keepRow x) ex = absurd (row-fine k lk .call (subst IsKeep (sym ex) tt))
         kinds gd hc (callRow x) ex = on-call k pc go b c w x ex lk mi al g gd hc
         kinds gd hc (sendRow x) ex = on-send k pc go b c w x ex lk mi al g gd hc
+
         split : (q : Bool) → guards k b ≡ q → acted e (cond q (Some (begun k b)) None) pc go ≡ Some c → Leads b w go c (real.performed m (concrete rows j (PlannedStep.act k)) j pc w)
         split true gd hc = kinds gd hc (rowAt rows (nk + k)) refl
         split false gd hc = never c hc
@@ -369,8 +418,10 @@ module _ (m : Model) (rows : List Row) (L : ℕ) where
       where
         st : Stepped S
         st = real.performed m (concrete rows j (getD p pc PlannedStep.halt)) j pc w
+
         here : real.steps m (suc f) code j pc w ≡ real.onward m st (real.steps m f code j)
         here = ap (λ (x : Step). real.onward m (real.performed m x j pc w) (real.steps m f code j)) (same pc)
+
         on : Leads b w (exec e p f) c st
             → ((pc′ : ℕ) (b′ : Bench S) (w′ : World S) → Same late b′ w′ → Going T (w′ .state) → exec e p f pc′ b′ ≡ Some c → (v : World S) × (real.steps m f code j pc′ w′ ≡ Outcome.done v) × Same late c v × Going T (v .state))
             → (v : World S) × (real.steps m (suc f) code j pc w ≡ Outcome.done v) × Same late c v × Going T (v .state)

@@ -61,10 +61,11 @@ module _ (m : Model) where
   quiet w v e f = record { plant = e; size = ap length f; counts = λ row l. ap (λ (xs : List Mark). getD xs row blankMark .count) f ∙ sym (add-zero _) }
 
   then : (es fs : List Event) (w v u : World S) → Tallied es w v → Tallied fs v u → Tallied (es ++ fs) w u
-  then es fs w v u a b = record
-    { plant = b .plant ∙ ap (λ (s : S). plantAfter m s fs) (a .plant) ∙ plant-on m (w .plant) es fs
-    ; size = b .size ∙ a .size
-    ; counts = λ row l. let x = a .counts row l in let s = a .size in let y = b .counts row (omega arith) in let z = times-on row es fs in omega arith }
+  then es fs w v u a b = record {
+    plant = b .plant ∙ ap (λ (s : S). plantAfter m s fs) (a .plant) ∙ plant-on m (w .plant) es fs;
+    size = b .size ∙ a .size;
+    counts = λ row l. let x = a .counts row l in let s = a .size in let y = b .counts row (omega arith) in let z = times-on row es fs in omega arith;
+  }
 
   -- A mark that is written.
   count-written : (s : State) (row k : ℕ) (f g : Option ℕ) (v : ℕ) → k < length (s .marks) → markIn (marked s row f g v) k .count ≡ markIn s k .count + cond (eqb row k) 1 0
@@ -72,6 +73,7 @@ module _ (m : Model) where
     where
       x : Mark
       x = record { count = markIn s row .count + 1; tick = s .granted; first = f; second = g; given = Some v }
+
       go : (row < length (s .marks)) ⊎ (length (s .marks) ≤ row) → getD (set (s .marks) row x) k blankMark .count ≡ markIn s k .count + cond (eqb row k) 1 0
       go (inl lr) = ap (λ (y : Mark). y .count) (set-read (s .marks) row k x blankMark lr) ∙ on (cases-eq row k)
         where
@@ -105,10 +107,11 @@ module _ (m : Model) where
           (cond b (Stepped.refused (real.faultAt UnitBusy program address) w) (cond k (onto (address + 1) (real.answered m row work words output duration program w)) (Stepped.refused (real.unknownAt (stationOf program) work program address) w)))
       go true k = same w
       go false false = same w
-      go false true = record
-        { plant = refl
-        ; size = length-set (w .state .marks) row _
-        ; counts = λ k l. count-written (w .state) row k _ _ _ l ∙ ap (λ (z : ℕ). markIn (w .state) k .count + z) (sym (one-time (called row (asked (stationOf program) work words)) k)) }
+      go false true = record {
+        plant = refl;
+        size = length-set (w .state .marks) row _;
+        counts = λ k l. count-written (w .state) row k _ _ _ l ∙ ap (λ (z : ℕ). markIn (w .state) k .count + z) (sym (one-time (called row (asked (stationOf program) work words)) k));
+      }
 
   on-send : (o : Option ℕ) (row duration program address : ℕ) (w : World S) → StepTally (sent row ∷ []) w (real.sent m o row duration program address w)
   on-send None row duration program address w = same w
@@ -116,10 +119,12 @@ module _ (m : Model) where
     where
       line : (x : Option Message) → StepTally (sent row ∷ []) w (real.onLine m x row word duration program address w)
       line (Some message) = same w
-      line None = record
-        { plant = refl
-        ; size = length-set (w .state .marks) row _
-        ; counts = λ k l. count-written (w .state) row k _ _ _ l ∙ ap (λ (z : ℕ). markIn (w .state) k .count + z) (sym (one-time (sent row) k)) }
+      line None = record {
+        plant = refl;
+        size = length-set (w .state .marks) row _;
+        counts = λ k l. count-written (w .state) row k _ _ _ l ∙ ap (λ (z : ℕ). markIn (w .state) k .count + z) (sym (one-time (sent row) k));
+      }
+
       go : (b : Bool) → StepTally (sent row ∷ []) w (cond b (Stepped.refused (real.faultAt UnitBusy program address) w) (real.onLine m (w .state .line) row word duration program address w))
       go true = same w
       go false = line (w .state .line)
@@ -130,6 +135,7 @@ module _ (m : Model) where
       way : (b : Bool) → StepTally [] w (cond b (onto (address + 1) w) (onto to w))
       way true = same w
       way false = same w
+
       held : (o : Option ℕ) → StepTally [] w (real.tested m o relation word to program address w)
       held None = same w
       held (Some v) = way _
@@ -173,8 +179,10 @@ module _ (m : Model) where
     where
       a : ℕ
       a = real.unitIn (w .state) program .address
+
       u : World S
       u = real.at w (real.withTimer (w .state) program None a)
+
       go : (d b : Bool) → Tallied (cond d (cond b [] (stepEvents m (length code + 1) code program a u)) []) w
           (worldOf (cond d (cond b (Outcome.refused (real.faultAt UnitBusy program a) w) (real.steps m (length code + 1) code program a u)) (Outcome.done w)))
       go false b = same w
@@ -202,6 +210,7 @@ module _ (m : Model) where
           on : (b : Bool) → Tallied [] w (worldOf (cond b (Outcome.done (real.stored m program variable (x .word) w)) (Outcome.refused (real.faultAt NoMessage program address) w)))
           on true = quiet w _ refl refl
           on false = same w
+
       go : (b : Bool) → Tallied [] w (worldOf (cond b (real.heard m (w .state .line) clock program variable address w) (Outcome.done w)))
       go true = heard (w .state .line)
       go false = same w
@@ -231,13 +240,17 @@ module _ (m : Model) where
       where
         es : List Event
         es = firstEvents m programs (length programs) w
+
         c : ℕ
         c = w .state .granted + 1
+
         more : World S → Outcome S
         more v = real.andThen (real.secondPart m programs c (length programs) v) (λ u. Outcome.done (real.leaves m c u))
+
         last : (v : World S) (o : Outcome S) → Tallied [] v (worldOf o) → Tallied [] v (worldOf (real.andThen o (λ u. Outcome.done (real.leaves m c u))))
         last v (Outcome.done u) t = then [] [] v u _ t (quiet u _ refl refl)
         last v (Outcome.refused f u) t = t
+
         go : (o : Outcome S) → Tallied es w (worldOf o) → Tallied es w (worldOf (real.andThen o more))
         go (Outcome.done v) t = subst (λ (xs : List Event). Tallied xs w (worldOf (more v))) (append-nil es)
             (then es [] w v _ t (last v (real.secondPart m programs c (length programs) v) (second-tally c (length programs) v)))
@@ -248,9 +261,11 @@ module _ (m : Model) where
       where
         es : List Event
         es = firstEvents m programs (length programs) w
+
         count : (o : Outcome S) → Tallied es w (worldOf o) → Tallied es w (worldOf (real.counted m programs (w .state .granted) o))
         count (Outcome.done v) t = subst (λ (xs : List Event). Tallied xs w (real.at v (real.withGranted (v .state) (w .state .granted + 1)))) (append-nil es) (then es [] w v _ t (quiet v _ refl refl))
         count (Outcome.refused f v) t = subst (λ (xs : List Event). Tallied xs w (real.at v (real.withStopped (v .state)))) (append-nil es) (then es [] w v _ t (quiet v _ refl refl))
+
         go : (s l : Bool) → Tallied (cond s [] (cond l es [])) w
             (worldOf (cond s (Outcome.refused (real.ofTheRun Stopped) w) (cond l (real.counted m programs (w .state .granted) (real.parts m programs w)) (Outcome.refused (real.ofTheRun LimitReached) w))))
         go true l = same w
@@ -264,6 +279,7 @@ module _ (m : Model) where
       where
         es : List Event
         es = tickEvents m programs w
+
         go : (o : Outcome S) → Tallied es w (worldOf o) → ((v : World S) → Tallied (rehearsalEvents m programs n v) v (rehearsed m programs n v .world))
             → Tallied (es ++ eventsThen m o (rehearsalEvents m programs n)) w (rehearsedOn m programs o (rehearsed m programs n) .world)
         go (Outcome.done v) t ih = then es (rehearsalEvents m programs n v) w v _ t (ih v)

@@ -101,13 +101,17 @@ module _ (m : Model) (rows : List Row) (L : ℕ) where
       where
         lj : j < 16
         lj = omega arith
+
         code : List Step
         code = getD programs j []
+
         u : UnitAlike m r n L (keepsOf rows) nk (lateTo T j j) j (b .units j) (unitIn (w .state) j)
         u = al .units j lj
+
         same : real.dueAt m (unitIn (w .state) j .timer) (w .state .granted) ≡ eqb (b .units j .at) T
         same = ap (real.dueAt m (unitIn (w .state) j .timer)) (g .granted)
             ∙ due-same T (lateTo T j j) (unitIn (w .state) j .timer) (b .units j .at) (let e : lateTo T j j ≡ T = cond-false _ _ _ (le-ltb j j (omega arith)) in omega arith) (u .timer)
+
         spent : World S
         spent = real.at w (withTimer (w .state) j None (unitIn (w .state) j .address))
 
@@ -121,10 +125,16 @@ module _ (m : Model) (rows : List Row) (L : ℕ) where
           where
             long : length code + 1 ≡ suc (length (plan j))
             long = add-one (length code) ∙ ap suc (ap length (maps j lp) ∙ length-map (plan j) (concrete rows j))
+
             end : (v : World S) × (real.steps m (suc (length (plan j))) code j (b .units j .pc) spent ≡ Outcome.done v) × Same (lateTo T (suc j)) c v × Going T (v .state)
                 → Reached (lateTo T (suc j)) T c (real.awake m code j w)
-            end (v, e, a, z) = (v, cond-false _ _ _ (idle j (b .units j .busy) (unitIn (w .state) j .job) (u .job) free)
-                ∙ ap₂ (λ (x y : ℕ). real.steps m x code j y spent) long (u .address) ∙ e, a, z)
+            end (v, e, a, z) = (
+              v,
+              cond-false _ _ _ (idle j (b .units j .busy) (unitIn (w .state) j .job) (u .job) free)
+                  ∙ ap₂ (λ (x y : ℕ). real.steps m x code j y spent) long (u .address) ∙ e,
+              a,
+              z,
+            )
 
         way : (q : Bool) → eqb (b .units j .at) T ≡ q
             → cond q (cond (isNone (b .units j .busy)) (exec (engine (leaves m) (guarded m) (m .known) r n L (keepsOf rows) nk j T) (plan j) (suc (length (plan j))) (b .units j .pc) b) None) (Some b) ≡ Some c
@@ -183,8 +193,12 @@ module _ (m : Model) (rows : List Row) (L : ℕ) where
       where
         way : (q : Bool) → cond q (Some (store (leaves m) (guarded m) (m .known) r n L (keepsOf rows) nk j k (x .word) b)) None ≡ Some c
             → Reached late T c (cond q (Outcome.done (real.stored m j (r k .out) (x .word) w)) (Outcome.refused (real.faultAt NoMessage j a) w))
-        way true e = (real.stored m j (r k .out) (x .word) w, refl,
-            moved late _ c _ e (store-alike m r n L (keepsOf rows) nk late b w j k (x .word) lj (half j lj) (row-fine k lk .output) al), record { granted = g .granted; going = g .going })
+        way true e = (
+          real.stored m j (r k .out) (x .word) w,
+          refl,
+          moved late _ c _ e (store-alike m r n L (keepsOf rows) nk late b w j k (x .word) lj (half j lj) (row-fine k lk .output) al),
+          record { granted = g .granted; going = g .going },
+        )
         way false e = never c e
 
     ended-alike : (late : ℕ → ℕ) (j T C : ℕ) (b c : Bench S) (w : World S) (busy : Option PlannedJob) (job : Job) → j < 16 → Same late b w → Going T (w .state)
@@ -197,21 +211,32 @@ module _ (m : Model) (rows : List Row) (L : ℕ) where
       where
         k : ℕ
         k = q .row
+
         Released : Bench S
         Released = release (leaves m) (guarded m) (m .known) r n L (keepsOf rows) nk j b
+
         Stored : Bench S
         Stored = store (leaves m) (guarded m) (m .known) r n L (keepsOf rows) nk j k (q .word) b
+
         Heard : Option (Bench S)
         Heard = heard (leaves m) (guarded m) (m .known) r n L (keepsOf rows) nk (b .line) C j k b
 
         storing : (t : Bool) → cond t (Some Stored) (Some b) ≡ Some c → Reached late T c (cond t (Outcome.done (real.stored m j (r k .out) (q .word) w)) (Outcome.done w))
-        storing true e = (real.stored m j (r k .out) (q .word) w, refl,
-            moved late Stored c _ e (store-alike m r n L (keepsOf rows) nk late b w j k (q .word) lj (half j lj) (row-fine k lk .output) al), record { granted = g .granted; going = g .going })
+        storing true e = (
+          real.stored m j (r k .out) (q .word) w,
+          refl,
+          moved late Stored c _ e (store-alike m r n L (keepsOf rows) nk late b w j k (q .word) lj (half j lj) (row-fine k lk .output) al),
+          record { granted = g .granted; going = g .going },
+        )
         storing false e = (w, refl, moved late b c w e al, g)
 
         releasing : (t : Bool) → cond t (Some Released) (Some b) ≡ Some c → Reached late T c (cond t (Outcome.done (real.at w (withJob (w .state) j Idle))) (Outcome.done w))
-        releasing true e = (real.at w (withJob (w .state) j Idle), refl,
-            moved late Released c _ e (release-alike m r n L (keepsOf rows) nk late b w j lj al), record { granted = g .granted; going = g .going })
+        releasing true e = (
+          real.at w (withJob (w .state) j Idle),
+          refl,
+          moved late Released c _ e (release-alike m r n L (keepsOf rows) nk late b w j lj al),
+          record { granted = g .granted; going = g .going },
+        )
         releasing false e = (w, refl, moved late b c w e al, g)
 
         hearing : (t : Bool) → cond t Heard (Some b) ≡ Some c → Reached late T c (cond t (real.heard m (w .state .line) C j (r k .out) a w) (Outcome.done w))
@@ -233,6 +258,7 @@ module _ (m : Model) (rows : List Row) (L : ℕ) where
       where
         step : World S → Outcome S
         step v = real.ended m (unitIn (v .state) k .job) C k v
+
         on : (o : Option (Bench S)) → settleTo (leaves m) (guarded m) (m .known) r n L (keepsOf rows) nk C k b ≡ o
             → bind o (λ d. ended (leaves m) (guarded m) (m .known) r n L (keepsOf rows) nk (d .units k .busy) C k d) ≡ Some c
             → ((d : Bench S) → settleTo (leaves m) (guarded m) (m .known) r n L (keepsOf rows) nk C k b ≡ Some d → Reached late T d (real.secondPart m programs C k w))
@@ -254,18 +280,23 @@ module _ (m : Model) (rows : List Row) (L : ℕ) where
       where
         N : ℕ
         N = length programs
+
         start : Same (lateTo T 0) b w
         start = alike-up m r n L (keepsOf rows) nk (λ _. T) (lateTo T 0) b w (λ i. let e : lateTo T 0 i ≡ T = cond-false _ _ _ (le-ltb i 0 (omega arith)) in omega arith) al
+
         top : (i : ℕ) → lateTo T N i ≤ suc T
         top i = go (ltb i N)
           where
             go : (t : Bool) → cond t (suc T) T ≤ suc T
             go true = omega arith
             go false = omega arith
+
         second : World S → Outcome S
         second v = andThen (real.secondPart m programs (w .state .granted + 1) N v) (λ u. Outcome.done (real.leaves m (w .state .granted + 1) u))
+
         clock : w .state .granted + 1 ≡ suc T
         clock = add-one (w .state .granted) ∙ ap suc (g .granted)
+
         whole : (o : Outcome S) → real.parts m programs w ≡ o → real.tick m programs w ≡ real.counted m programs (w .state .granted) o
         whole o e = cond-false _ _ _ (g .going) ∙ cond-true _ _ _ (ap (λ (z : ℕ). ltb z limit) (g .granted) ∙ lt-ltb T limit lt) ∙ ap (real.counted m programs (w .state .granted)) e
 
@@ -275,10 +306,12 @@ module _ (m : Model) (rows : List Row) (L : ℕ) where
           where
             u2 : World S
             u2 = real.leaves m (suc T) u
+
             parts : real.parts m programs w ≡ Outcome.done u2
             parts = ap (λ (o : Outcome S). andThen o second) e1
                 ∙ ap (λ (z : ℕ). andThen (real.secondPart m programs z N v) (λ u. Outcome.done (real.leaves m z u))) clock
                 ∙ ap (λ (o : Outcome S). andThen o (λ u. Outcome.done (real.leaves m (suc T) u))) e2
+
             alike : Same (λ _. suc T) c (real.at u2 (withGranted (u2 .state) (w .state .granted + 1)))
             alike = granted-alike m r n L (keepsOf rows) nk (λ _. suc T) c u2 (w .state .granted + 1)
                 (alike-up m r n L (keepsOf rows) nk (lateTo T N) (λ _. suc T) c u2 top

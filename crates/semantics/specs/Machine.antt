@@ -79,43 +79,78 @@ unitIn s program = getD (s .units) program newUnit
 abbrev pub withWord : State → ℕ → ℕ → Option ℕ → State
 withWord s station variable word = record {
   places = set (s .places) (placeOf station variable) word;
-  cells = s .cells; marks = s .marks; units = s .units; line = s .line; granted = s .granted; stopped = s .stopped;
+  cells = s .cells;
+  marks = s .marks;
+  units = s .units;
+  line = s .line;
+  granted = s .granted;
+  stopped = s .stopped;
 }
 
 abbrev pub withCell : State → ℕ → Option ℕ → State
 withCell s cell word = record {
-  places = s .places; cells = set (s .cells) cell word;
-  marks = s .marks; units = s .units; line = s .line; granted = s .granted; stopped = s .stopped;
+  places = s .places;
+  cells = set (s .cells) cell word;
+  marks = s .marks;
+  units = s .units;
+  line = s .line;
+  granted = s .granted;
+  stopped = s .stopped;
 }
 
 abbrev pub withMark : State → ℕ → Mark → State
 withMark s row mark = record {
-  places = s .places; cells = s .cells; marks = set (s .marks) row mark;
-  units = s .units; line = s .line; granted = s .granted; stopped = s .stopped;
+  places = s .places;
+  cells = s .cells;
+  marks = set (s .marks) row mark;
+  units = s .units;
+  line = s .line;
+  granted = s .granted;
+  stopped = s .stopped;
 }
 
 abbrev pub withUnit : State → ℕ → UnitState → State
 withUnit s program unit = record {
-  places = s .places; cells = s .cells; marks = s .marks; units = set (s .units) program unit;
-  line = s .line; granted = s .granted; stopped = s .stopped;
+  places = s .places;
+  cells = s .cells;
+  marks = s .marks;
+  units = set (s .units) program unit;
+  line = s .line;
+  granted = s .granted;
+  stopped = s .stopped;
 }
 
 abbrev pub withLine : State → Option Message → State
 withLine s line = record {
-  places = s .places; cells = s .cells; marks = s .marks; units = s .units; line = line;
-  granted = s .granted; stopped = s .stopped;
+  places = s .places;
+  cells = s .cells;
+  marks = s .marks;
+  units = s .units;
+  line = line;
+  granted = s .granted;
+  stopped = s .stopped;
 }
 
 abbrev pub withGranted : State → ℕ → State
 withGranted s granted = record {
-  places = s .places; cells = s .cells; marks = s .marks; units = s .units; line = s .line;
-  granted = granted; stopped = s .stopped;
+  places = s .places;
+  cells = s .cells;
+  marks = s .marks;
+  units = s .units;
+  line = s .line;
+  granted = granted;
+  stopped = s .stopped;
 }
 
 abbrev pub withStopped : State → State
 withStopped s = record {
-  places = s .places; cells = s .cells; marks = s .marks; units = s .units; line = s .line;
-  granted = s .granted; stopped = true;
+  places = s .places;
+  cells = s .cells;
+  marks = s .marks;
+  units = s .units;
+  line = s .line;
+  granted = s .granted;
+  stopped = true;
 }
 
 abbrev pub withJob : State → ℕ → Job → State
@@ -134,7 +169,12 @@ emptied station (suc n) places = set (emptied station n places) (placeOf station
 abbrev pub withCleared : State → ℕ → State
 withCleared s station = record {
   places = emptied station placesEach (s .places);
-  cells = s .cells; marks = s .marks; units = s .units; line = s .line; granted = s .granted; stopped = s .stopped;
+  cells = s .cells;
+  marks = s .marks;
+  units = s .units;
+  line = s .line;
+  granted = s .granted;
+  stopped = s .stopped;
 }
 
 abbrev pub isIdle : Job → Bool
@@ -243,8 +283,8 @@ module _ (m : Model) where
   abbrev pub carried : ℕ → ℕ → ℕ → ℕ → World (m .State) → World (m .State)
   carried row word duration program w =
       at w (withLine
-        (withJob (marked (w .state) row (Some word) None word) program (Carry (w .state .granted + duration)))
-        (Some record { end = w .state .granted + duration; word = word }))
+      (withJob (marked (w .state) row (Some word) None word) program (Carry (w .state .granted + duration)))
+      (Some record { end = w .state .granted + duration; word = word }))
 
   abbrev pub onLine : Option Message → ℕ → ℕ → ℕ → ℕ → ℕ → World (m .State) → Stepped (m .State)
   onLine None row word duration program address w = onto (address + 1) (carried row word duration program w)

@@ -97,7 +97,6 @@ module _ (m : Model) (h : Head) (rows : List Row) (start : m .State) where
         ≡ cond (ltb (ticksAsked rs) limit) Granted (Refused (ofTheRun LimitReached))
     pub rehearsal : (n : ℕ) → served m programs (Rehearse n) (runAfter rs) .reply
         ≡ Made (min n (limit - ticksAsked rs)) (cond (ltb (limit - ticksAsked rs) n) (Some (ofTheRun LimitReached)) None)
-
     -- CYCLES. Whenever the granted ticks are whole cycles, every place of every station, every keep row's cell and the
     -- plant's state are those of the reading after as many cycles.
     pub places : (q : ℕ) → runAfter rs .state .granted ≡ q * h .cycle
@@ -107,7 +106,6 @@ module _ (m : Model) (h : Head) (rows : List Row) (start : m .State) where
         → (n : ℕ) → n < length rows → IsKeep (rowAt rows n)
         → cellIn (runAfter rs .state) n ≡ afterCycles m rows start q .cells n
     pub plant : (q : ℕ) → runAfter rs .state .granted ≡ q * h .cycle → runAfter rs .plant ≡ afterCycles m rows start q .plant
-
     -- MARKS. Each call's and each send's mark counts the cycles that count for it, with tick and words of the latest.
     pub marks : (n : ℕ) → n < length rows → (IsKeep (rowAt rows n) → ⊥)
         → MarkTells (runAfter rs .state .granted) n (markIn (runAfter rs .state) n)

@@ -66,13 +66,8 @@ pub struct State {
 pub enum Request {
     Tick,
     Rehearse(u32),
-    WordAt {
-        station: u32,
-        variable: u32,
-    },
-    MarkAt {
-        row: u32,
-    },
+    WordAt { station: u32, variable: u32 },
+    MarkAt { row: u32 },
 }
 
 // What it replies.
