@@ -1,13 +1,13 @@
 -- The run promise.
 use mathlib.Core.Path.{_≡_, refl, sym, ap, ap₂, _∙_, subst}
-use mathlib.Core.Bool.{Bool, true, false, cond, not, _&&_}
+use mathlib.Core.Bool.{Bool, true, false, cond, _&&_}
 use mathlib.Core.Logic.{_⊎_, inl, inr}
-use mathlib.Core.List.{List, [], _∷_}
+use mathlib.Core.List.{List}
 use Prim.Native.Nat.{ℕ, zero, suc, _+_, _-_, _*_, _≤_, _<_, min}
 use native.Mathlib.Omega.{arith}
-use lib.Dec.{eqb, ltb}
+use lib.Dec.{ltb}
 use lib.ListN.{length}
-use Rattle.std.proofs.shelf.Tests.{cases-lt, cases-bool, cond-true, cond-false, both-ways, lt-ltb, le-ltb}
+use Rattle.std.proofs.shelf.Tests.{cases-lt, cond-true, cond-false, both-ways, lt-ltb, le-ltb}
 use Rattle.std.specs.declared.option.Option.{Option}
 use Rattle.std.specs.declared.option.Option.the-variants.{Some, None}
 use Rattle.fault.specs.declared.refusal.Refusal.the-variants.{LimitReached}
@@ -20,7 +20,7 @@ use Rattle.judge.specs.Verdict.{isKeep}
 use Rattle.plant.specs.Model.{Model, Apart, leaves}
 use Rattle.plant.specs.Fit.{KnowsEach}
 use Rattle.schedule.specs.Rows.{Row as Planned, ends}
-use Rattle.schedule.specs.Machine.{Bench, Mark as PlannedMark}
+use Rattle.schedule.specs.Machine.{Mark as PlannedMark}
 use Rattle.schedule.specs.Marks.{countb, MarkIs, counts, told}
 use Rattle.schedule.specs.Cycles.{blankMark as blankPlanned, afterCycles as plannedCycles}
 use Rattle.schedule.specs.Plain.{HoldsReading}
@@ -33,18 +33,17 @@ use Rattle.translate.proofs.Lawfulness.{programs-lawful}
 use Rattle.translate.proofs.Maps.{keep-few, keep-front, date-same, end-same}
 use Rattle.semantics.specs.declared.state.Mark.{Mark}
 use Rattle.semantics.specs.declared.state.Request.{Request}
-use Rattle.semantics.specs.declared.state.Request.the-variants.{Tick, Rehearse}
-use Rattle.semantics.specs.declared.state.Reply.{Reply}
+use Rattle.semantics.specs.declared.state.Request.the-variants.{Rehearse}
 use Rattle.semantics.specs.declared.state.Reply.the-variants.{Granted as grantedReply, Refused, Made}
 use Rattle.semantics.specs.Machine as real
-use Rattle.semantics.specs.Machine.{World, Outcome, limit, blankMark, wordIn, cellIn, markIn, ofTheRun}
-use Rattle.semantics.specs.Requests.{ticked, served, rehearsed}
-use Rattle.semantics.specs.Reading.{afterCycles, performs, words}
-use Rattle.semantics.specs.Promise.{ticksAsked, howMany, IsSend, MarkTells, HoldsAfter, Promised, Run-promise, countsFor, markOf, tickOf, runAfter, Occupies}
+use Rattle.semantics.specs.Machine.{World, Outcome, limit, blankMark, markIn, ofTheRun}
+use Rattle.semantics.specs.Requests.{ticked, served}
+use Rattle.semantics.specs.Reading.{afterCycles, performs}
+use Rattle.semantics.specs.Promise.{ticksAsked, howMany, IsSend, MarkTells, HoldsAfter, Promised, Run-promise, countsFor, markOf, runAfter, Occupies}
 use Rattle.semantics.proofs.Guarded.{guarded}
-use Rattle.semantics.proofs.Alike.{Alike, asMark}
+use Rattle.semantics.proofs.Alike.{asMark}
 use Rattle.semantics.proofs.Readings.{ReadingAlike, cycles-alike, performs-same, words-alike}
-use Rattle.semantics.proofs.Runs.{At, Granted, Rehearsed, lim, ord, fit, accepted, lawful, bases, run, at-tick, at-limit, at-rehearse, after-requests}
+use Rattle.semantics.proofs.Runs.{At, Granted, lim, ord, fit, accepted, lawful, bases, at-tick, at-limit, at-rehearse, after-requests}
 
 is-keep : (x : Row) → IsKeep x → isKeep x ≡ true
 is-keep (keepRow k) i = refl

@@ -1,5 +1,5 @@
 -- A message on the line stays as it is up to its end, for any programs.
-use mathlib.Core.Path.{_≡_, refl, sym, ap, _∙_, subst}
+use mathlib.Core.Path.{_≡_, refl, ap, _∙_, subst}
 use mathlib.Core.Bool.{Bool, true, false, cond}
 use mathlib.Core.List.{List, []}
 use Prim.Native.Nat.{ℕ, zero, suc, _+_}
@@ -20,7 +20,6 @@ use Rattle.plant.specs.declared.works.Words.{Words}
 use Rattle.semantics.specs.declared.state.Job.{Job}
 use Rattle.semantics.specs.declared.state.Job.the-variants.{Idle, Store, Carry, Listen}
 use Rattle.semantics.specs.declared.state.Message.{Message}
-use Rattle.semantics.specs.declared.state.State.{State}
 use Rattle.semantics.specs.Machine as real
 use Rattle.semantics.specs.Machine.{World, Stepped, Outcome, onto, halted, inputWords, wordIn}
 

@@ -3,12 +3,12 @@ use mathlib.Core.Path.{_≡_, refl, sym, ap, ap₂, _∙_, subst}
 use mathlib.Core.Bool.{Bool, true, false, cond, not, _&&_}
 use mathlib.Core.Logic.{_⊎_, inl, inr}
 use mathlib.Core.List.{List, [], _∷_}
-use Prim.Native.Nat.{ℕ, zero, suc, _+_, _-_, _*_, _≤_, _<_}
+use Prim.Native.Nat.{ℕ, zero, suc, _+_, _-_, _≤_, _<_}
 use native.Mathlib.Omega.{arith}
 use native.Mathlib.Nat.{add-zero, add-suc}
 use lib.Dec.{eqb, ltb}
 use lib.ListN.{length}
-use Rattle.std.proofs.shelf.Tests.{cases-lt, cases-bool, cond-true, cond-false, both-ways, lt-ltb, le-ltb}
+use Rattle.std.proofs.shelf.Tests.{cases-lt, cond-true, cond-false, both-ways, lt-ltb, le-ltb}
 use Rattle.std.specs.declared.option.Option.{Option}
 use Rattle.std.specs.declared.option.Option.the-variants.{Some, None}
 use Rattle.sheet.specs.declared.row.Relation.{Relation}
@@ -17,14 +17,13 @@ use Rattle.sheet.specs.declared.row.Test.{Test}
 use Rattle.sheet.specs.declared.row.Inputs.{Inputs}
 use Rattle.sheet.specs.declared.row.Inputs.the-variants.{Nothing, Single, Pair}
 use Rattle.sheet.specs.declared.row.Call.{Call}
-use Rattle.sheet.specs.declared.row.Send.{Send}
 use Rattle.sheet.specs.declared.row.Row.{Row}
 use Rattle.sheet.specs.declared.row.Row.the-variants.{Keep as keepRow, Call as callRow, Send as sendRow}
 use Rattle.sheet.specs.Rows.{testsOf, rowAt, inputsOf}
 use Rattle.judge.specs.Verdict.{isKeep}
-use Rattle.plant.specs.Model.{Model, Work, knows, leaves}
+use Rattle.plant.specs.Model.{Model, Work, leaves}
 use Rattle.plant.specs.Fit.{KnowsEach}
-use Rattle.schedule.specs.Rows.{Test as Asked, meets, allMeet, Row as Planned, Now as PlannedNow, Places as PlannedPlaces, wordOf as plannedWord, word1, word2, asked, given, doRow, readTo as plannedTo}
+use Rattle.schedule.specs.Rows.{meets, allMeet, Row as Planned, Now as PlannedNow, Places as PlannedPlaces, wordOf as plannedWord, word1, word2, asked, given, doRow, readTo as plannedTo}
 use Rattle.schedule.specs.Pick.{pick}
 use Rattle.schedule.specs.Machine.{said, takeIn, orFirst as orFirstOf, cellsOf, startOf}
 use Rattle.schedule.specs.Cycles as planned

@@ -1,16 +1,14 @@
 -- A run of an accepted sheet's programs, tick by tick and request by request.
-use mathlib.Core.Path.{_≡_, refl, sym, ap, ap₂, _∙_, subst}
-use mathlib.Core.Bool.{Bool, true, false, cond, not, _&&_}
+use mathlib.Core.Path.{_≡_, refl, sym, ap, _∙_, subst}
+use mathlib.Core.Bool.{Bool, true, false, cond}
 use mathlib.Core.Logic.{_⊎_, inl, inr}
 use mathlib.Core.List.{List, [], _∷_, map}
-use Prim.Native.Nat.{ℕ, zero, suc, _+_, _-_, _*_, _/_, _≤_, _<_, min}
+use Prim.Native.Nat.{ℕ, zero, suc, _+_, _-_, _*_, _≤_, _<_, min}
 use native.Mathlib.Omega.{arith}
-use native.Mathlib.Numerals.{add-one}
-use native.Mathlib.Nat.{zero-add, add-zero}
 use lib.Dec.{eqb, ltb}
-use lib.ListN.{length, getD, replicate}
+use lib.ListN.{length, getD}
 use Rattle.std.proofs.shelf.Lists.{getD-past, getD-replicate, length-replicate}
-use Rattle.std.proofs.shelf.Tests.{cases-lt, cases-bool, cond-true, cond-false, both-ways, lt-ltb, le-ltb}
+use Rattle.std.proofs.shelf.Tests.{cases-lt, cond-true, cond-false, both-ways, lt-ltb, le-ltb}
 use Rattle.std.specs.declared.option.Option.{Option}
 use Rattle.std.specs.declared.option.Option.the-variants.{Some, None}
 use Rattle.fault.specs.declared.refusal.Fault.{Fault}
@@ -38,7 +36,7 @@ use Rattle.schedule.proofs.Joined as joined
 use Rattle.schedule.proofs.Judged.{accepted-now}
 use Rattle.schedule.proofs.Kept.{program-ok}
 use Rattle.translate.specs.Schedules.{keepCount, rowsOf, rowTotal, keepsOf, concrete}
-use Rattle.translate.specs.Translation.{translated, programCode}
+use Rattle.translate.specs.Translation.{translated}
 use Rattle.translate.specs.Laws.{Sheet}
 use Rattle.translate.specs.Ordered.{Ordered}
 use Rattle.translate.proofs.Judging.{judged, limits, fields, ordered}
@@ -46,9 +44,8 @@ use Rattle.translate.proofs.Lawfulness.{programs-lawful, each-program}
 use Rattle.translate.proofs.Maps.{keep-few, program-maps}
 use Rattle.semantics.specs.declared.state.Request.{Request}
 use Rattle.semantics.specs.declared.state.Request.the-variants.{Tick, Rehearse, WordAt, MarkAt}
-use Rattle.semantics.specs.declared.state.State.{State}
 use Rattle.semantics.specs.Machine as real
-use Rattle.semantics.specs.Machine.{World, Outcome, limit, placeOf, newUnit, blankMark, newState, ofTheRun}
+use Rattle.semantics.specs.Machine.{World, Outcome, limit, placeOf, newUnit, blankMark, ofTheRun}
 use Rattle.semantics.specs.Requests.{Rehearsal, rehearsed, rehearsedOn, ticked, served, servedAll, atMaking}
 use Rattle.semantics.specs.Promise.{ticksIn, ticksAsked}
 use Rattle.semantics.proofs.Guarded.{guarded, guarded-lawful}

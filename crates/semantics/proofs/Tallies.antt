@@ -1,5 +1,5 @@
 -- What was performed tells the plant's state and the counts of the marks, for any programs.
-use mathlib.Core.Path.{_≡_, refl, sym, ap, ap₂, _∙_, subst}
+use mathlib.Core.Path.{_≡_, refl, sym, ap, _∙_, subst}
 use mathlib.Core.Bool.{Bool, true, false, cond}
 use mathlib.Core.Logic.{_⊎_, inl, inr}
 use mathlib.Core.List.{List, [], _∷_, _++_, append-nil}
@@ -9,16 +9,14 @@ use native.Mathlib.Nat.{add-zero}
 use lib.Dec.{eqb, ltb}
 use lib.ListN.{length, getD, set}
 use Rattle.std.proofs.shelf.Lists.{length-set, set-past}
-use Rattle.std.proofs.shelf.Tests.{cases-lt, cases-eq, cases-bool, cond-true, cond-false, eq-eqb, ne-eqb}
+use Rattle.std.proofs.shelf.Tests.{cases-lt, cases-eq, eq-eqb, ne-eqb}
 use Rattle.std.specs.declared.option.Option.{Option}
 use Rattle.std.specs.declared.option.Option.the-variants.{Some, None}
-use Rattle.fault.specs.declared.refusal.Fault.{Fault}
 use Rattle.fault.specs.declared.refusal.Refusal.the-variants.{UnitBusy, NoMessage, LimitReached, Stopped}
-use Rattle.fault.specs.declared.place.TickPlace.{TickPlace}
 use Rattle.netcode.specs.declared.step.Step.{Step}
 use Rattle.netcode.specs.declared.step.Step.the-variants.{Test, Future, Halt, Call, Send, Receive, Keep, Clear, Give}
 use Rattle.netcode.specs.Layouts.{stationOf}
-use Rattle.plant.specs.Model.{Model, Work}
+use Rattle.plant.specs.Model.{Model}
 use Rattle.plant.specs.Replies.{asked, countOf}
 use Rattle.plant.specs.declared.works.Words.{Words}
 use Rattle.semantics.specs.declared.state.Mark.{Mark}
@@ -29,7 +27,7 @@ use Rattle.semantics.specs.declared.state.State.{State}
 use Rattle.semantics.specs.declared.state.Request.{Request}
 use Rattle.semantics.specs.declared.state.Request.the-variants.{Tick, Rehearse, WordAt, MarkAt}
 use Rattle.semantics.specs.Machine as real
-use Rattle.semantics.specs.Machine.{World, Stepped, Outcome, onto, halted, markIn, marked, blankMark, withMark, inputWords, wordIn}
+use Rattle.semantics.specs.Machine.{World, Stepped, Outcome, onto, halted, markIn, marked, blankMark, inputWords, wordIn}
 use Rattle.semantics.specs.Requests.{rehearsedOn, rehearsed, ticked, served, servedAll}
 use Rattle.semantics.specs.Events.{Event, called, sent, rowOf, plantAfter, timesOf, callEvent, eventOf, eventsOn, stepEvents, turnEvents, eventsThen, firstEvents, tickEvents, rehearsalEvents, requestEvents, events}
 use Rattle.semantics.proofs.Lists.{set-read}

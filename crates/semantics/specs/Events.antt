@@ -1,13 +1,11 @@
 -- What was performed: the calls and sends of a run, in order, for any programs.
-use mathlib.Core.Path.{_≡_}
-use mathlib.Core.Bool.{Bool, cond}
+use mathlib.Core.Bool.{cond}
 use mathlib.Core.List.{List, [], _∷_, _++_}
-use Prim.Native.Nat.{ℕ, zero, suc, _+_, _<_}
+use Prim.Native.Nat.{ℕ, zero, suc, _+_}
 use lib.Dec.{eqb, ltb}
 use lib.ListN.{length, getD}
 use Rattle.std.specs.declared.option.Option.{Option}
 use Rattle.std.specs.declared.option.Option.the-variants.{Some, None}
-use Rattle.fault.specs.declared.refusal.Fault.{Fault}
 use Rattle.netcode.specs.declared.step.Step.{Step}
 use Rattle.netcode.specs.declared.step.Step.the-variants.{Test, Future, Halt, Call, Send, Receive, Keep, Clear, Give}
 use Rattle.netcode.specs.Layouts.{stationOf}
@@ -17,7 +15,7 @@ use Rattle.plant.specs.declared.works.Words.{Words}
 use Rattle.semantics.specs.declared.state.State.{State}
 use Rattle.semantics.specs.declared.state.Request.{Request}
 use Rattle.semantics.specs.declared.state.Request.the-variants.{Tick, Rehearse, WordAt, MarkAt}
-use Rattle.semantics.specs.Machine.{World, Stepped, Outcome, onto, halted, inputWords, wordIn, markIn, unitIn, at, withTimer, isBusy, dueAt, performed, steps, turn, firstPart, limit, tick}
+use Rattle.semantics.specs.Machine.{World, Stepped, Outcome, onto, halted, inputWords, wordIn, unitIn, at, withTimer, isBusy, dueAt, performed, firstPart, limit, tick}
 use Rattle.semantics.specs.Requests.{served}
 
 -- A performed CALL, by its row and the work that the plant did; a performed SEND, by its row.

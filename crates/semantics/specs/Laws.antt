@@ -2,10 +2,9 @@
 use mathlib.Core.Path.{_≡_}
 use mathlib.Core.Bool.{true, false, cond}
 use mathlib.Core.Logic.{_⊎_}
-use mathlib.Core.List.{List, [], _∷_, _++_}
+use mathlib.Core.List.{List, _++_}
 use Prim.Native.Nat.{ℕ, zero, suc, _≤_, _<_}
 use lib.Dec.{eqb}
-use Rattle.std.specs.declared.option.Option.{Option}
 use Rattle.std.specs.declared.option.Option.the-variants.{Some, None}
 use Rattle.fault.specs.declared.refusal.Fault.{Fault}
 use Rattle.fault.specs.declared.refusal.Refusal.the-variants.{LimitReached, Stopped}
@@ -14,7 +13,6 @@ use Rattle.netcode.specs.declared.step.Step.{Step}
 use Rattle.plant.specs.Model.{Model}
 use Rattle.semantics.specs.declared.state.Request.{Request}
 use Rattle.semantics.specs.declared.state.Request.the-variants.{WordAt, MarkAt}
-use Rattle.semantics.specs.declared.state.Reply.{Reply}
 use Rattle.semantics.specs.declared.state.Message.{Message}
 use Rattle.semantics.specs.Machine.{World, Outcome, limit, markIn, ofTheRun, tick}
 use Rattle.semantics.specs.Requests.{Rehearsal, rehearsed, served, servedAll, atMaking, afterRequests}
