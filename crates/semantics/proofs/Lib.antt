@@ -10,3 +10,4 @@ pub mod Kept
 pub mod Tallies
 pub mod Lines
 pub mod Ending
+pub mod Counts

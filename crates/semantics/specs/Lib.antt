@@ -1,5 +1,6 @@
 pub mod Reading
 pub mod Machine
+pub mod Bounds
 pub mod Requests
 pub mod Events
 pub mod Laws
