@@ -9,5 +9,5 @@ pub mod Runs
 pub mod Kept
 pub mod Tallies
 pub mod Lines
-pub mod Ending
 pub mod Counts
+pub mod Ending

@@ -3,8 +3,9 @@ use mathlib.Core.Path.{_≡_}
 use mathlib.Core.Bool.{true, false, cond}
 use mathlib.Core.Logic.{_⊎_}
 use mathlib.Core.List.{List, _++_}
-use Prim.Native.Nat.{ℕ, zero, suc, _≤_, _<_}
+use Prim.Native.Nat.{ℕ, zero, suc, _+_, _*_, _≤_, _<_}
 use lib.Dec.{eqb}
+use lib.ListN.{length}
 use Rattle.std.specs.declared.option.Option.the-variants.{Some, None}
 use Rattle.fault.specs.declared.refusal.Fault.{Fault}
 use Rattle.fault.specs.declared.refusal.Refusal.the-variants.{LimitReached, Stopped}
@@ -16,6 +17,7 @@ use Rattle.semantics.specs.declared.state.Request.the-variants.{WordAt, MarkAt
 use Rattle.semantics.specs.declared.state.Message.{Message}
 use Rattle.semantics.specs.Machine.{World, Outcome, limit, markIn, ofTheRun, tick}
 use Rattle.semantics.specs.Requests.{Rehearsal, rehearsed, served, servedAll, atMaking, afterRequests}
+use Rattle.semantics.specs.Bounds.{CountsWithin}
 use Rattle.semantics.specs.Events.{plantAfter, timesOf, events}
 
 module _ (m : Model) (programs : List (List Step)) where
@@ -40,9 +42,16 @@ module _ (m : Model) (programs : List (List Step)) where
     -- A run that has stopped refuses 19; another at its limit refuses 18. Neither changes anything.
     pub stopped : (w : World (m .State)) → w .state .stopped ≡ true → tick m programs w ≡ Outcome.refused (ofTheRun Stopped) w
     pub full : (w : World (m .State)) → w .state .stopped ≡ false → limit ≤ w .state .granted → tick m programs w ≡ Outcome.refused (ofTheRun LimitReached) w
-    -- A tick that is refused otherwise ends the run, and is not counted.
+    -- A tick that is refused otherwise ends the run.
     pub ended : (w v : World (m .State)) (fault : Fault TickPlace) → w .state .stopped ≡ false → w .state .granted < limit
         → tick m programs w ≡ Outcome.refused fault v → EndsAt v
+    -- A granted tick is counted, and a refused one is not.
+    pub more : (w v : World (m .State)) → tick m programs w ≡ Outcome.done v → v .state .granted ≡ w .state .granted + 1
+    pub uncounted : (w v : World (m .State)) (fault : Fault TickPlace) → tick m programs w ≡ Outcome.refused fault v
+        → v .state .granted ≡ w .state .granted
+    -- A unit performs at most one call or send in a tick, so that counts stay far below 32 bits.
+    pub bounded : length programs ≤ 16 → (start : m .State) (rs : List Request)
+        → CountsWithin (16 * (afterRequests m programs start rs .state .granted + 1)) (afterRequests m programs start rs .state)
     -- Word-at and mark-at change nothing.
     pub word-at : (w : World (m .State)) (station variable : ℕ) → served m programs (WordAt station variable) w .world ≡ w
     pub mark-at : (w : World (m .State)) (row : ℕ) → served m programs (MarkAt row) w .world ≡ w
