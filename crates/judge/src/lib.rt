@@ -6,6 +6,7 @@ mod need;
 mod pairs;
 mod verdict;
 
+pub use fields::is_listener;
 pub use verdict::judge;
 pub use verdict::verdict_stands;
 pub use verdict::worked_verdicts;

@@ -1,7 +1,10 @@
+use mathlib.Core.Path.{_≡_}
 use mathlib.Core.List.{List}
+use mathlib.Core.Bool.{true}
 use Rattle.std.specs.Of.Vec.{vec-items}
 use Rattle.sheet.specs.declared.row.Head.{Head}
 use Rattle.sheet.specs.declared.row.Row.{Row}
+use Rattle.sheet.specs.Rows.{headWithin}
 use Rattle.stages.specs.declared.stage.Draft.{Draft}
 use Rattle.stages.specs.declared.stage.Accepted.{Accepted}
 use Rattle.stages.specs.Sheets.{rowsIn}
@@ -18,3 +21,10 @@ acceptedHead a = draftHead (a .draft)
 
 abbrev pub acceptedRows : Accepted → List Row
 acceptedRows a = draftRows (a .draft)
+
+abbrev pub acceptedDraft : Accepted → Draft
+acceptedDraft a = a .draft
+
+-- The head of an accepted sheet is within its limits.
+pub acceptedWithin : (a : Accepted) → headWithin (acceptedHead a) ≡ true
+acceptedWithin a = a .draft .limits

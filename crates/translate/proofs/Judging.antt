@@ -29,6 +29,7 @@ use Rattle.schedule.specs.Promise.{Available as Supplied, Judged}
 use Rattle.translate.specs.Translation.{testsIn, endOf}
 use Rattle.translate.specs.Schedules.{keepCount, isEqual, inputCount, firstInput, secondInput, asTest, asTests, asRow, asKeep, rowsOf, rowTotal, keepsOf}
 use Rattle.translate.specs.Ordered.{Ordered}
+use Rattle.translate.specs.Stores.{Bounded}
 use Rattle.translate.proofs.Maps.{keep-few, keep-front, tests-same}
 
 -- Keep rows stand above all others.
@@ -369,3 +370,15 @@ module _ (h : Head) (rows : List Row) (rules : Rules h rows) where
       ; output = λ k l. fields k l .output
       ; tests = λ k l. fields k l .tests
       ; tested = λ k t l m. fields k l .tested t m }
+
+  -- The limits that the code counts on.
+  pub bounded : headWithin h ≡ true → length rows ≤ h .rows → Bounded (h .cycle) rows
+  bounded w len =
+      let a = and-parts ((ltb 0 (h .stations) && ltb (h .stations) 9) && (ltb 0 (h .variables) && ltb (h .variables) 65)) _ w in
+      let c = and-parts (ltb 0 (h .cycle) && ltb (h .cycle) 65536) _ (a .1) in
+      let t = and-parts (ltb 0 (h .cycle)) _ (c .0) in
+      record
+      { few = omega (arith, ltb-true _ _ (c .1))
+      ; long = omega (arith, ltb-true _ _ (t .0))
+      ; short = omega (arith, ltb-true _ _ (t .1))
+      ; inside = λ i l. end-within h (rowAt rows i) (rules i l .fields) }

@@ -90,7 +90,7 @@ keep-idle p (keepRow k) e = refl
 keep-idle p (callRow c) e = absurd (false≢true e)
 keep-idle p (sendRow s) e = absurd (false≢true e)
 
-relation-same : (r : Relation) → relationFrom (isEqual r) ≡ r
+pub relation-same : (r : Relation) → relationFrom (isEqual r) ≡ r
 relation-same Equal = refl
 relation-same Unequal = refl
 
@@ -107,10 +107,10 @@ module _ (cycle : ℕ) (rows : List Row) (p : ℕ) (ord : Ordered cycle rows) wh
   abbrev C : PlannedStep → Step
   C = concrete rows p
 
-  total : nk + n ≡ length rows
+  pub total : nk + n ≡ length rows
   total = let l = keep-few rows in omega arith
 
-  due-same : (d i : ℕ) → i < n → isDue cycle rows p d (nk + i) ≡ due h d i
+  pub due-same : (d i : ℕ) → i < n → isDue cycle rows p d (nk + i) ≡ due h d i
   due-same d i l = ap₂ (λ (x y : Bool). x && y) (mine-same p (rowAt rows (nk + i)) (ord .after (nk + i) (omega arith) (omega arith))) (ap (λ (z : ℕ). eqb z d) (date-same (rowAt rows (nk + i))))
 
   idle : (d i : ℕ) → i < nk → isDue cycle rows p d i ≡ false
@@ -164,8 +164,8 @@ module _ (cycle : ℕ) (rows : List Row) (p : ℕ) (ord : Ordered cycle rows) wh
   wait-same : (o d e : ℕ) → e ≤ cycle → waitFor cycle rows p o d e ≡ C (PlannedStep.future (wake h e - d) (target h o (wake h e)))
   wait-same o d e l = rw (first-wake e l, address-same o (wake h e))
 
-  tests-code : (ts : List Test) (b : ℕ) → testsCode cycle rows p ts b ≡ map C (testCode h (asTests ts) b)
-  unfolding testsCode testCode
+  tests-code : (ts : List Test) (b : ℕ) → testsCode ts b ≡ map C (testCode h (asTests ts) b)
+  unfolding testCode
   tests-code [] b = refl
   tests-code (t ∷ ts) b = ap₂ (λ (r : Relation) (c : List Step). testStep (t .variable) r (t .word) b ∷ c) (sym (relation-same (t .relation))) (tests-code ts b)
 
@@ -252,51 +252,51 @@ module _ (cycle : ℕ) (rows : List Row) (p : ℕ) (ord : Ordered cycle rows) wh
   no-keep m (callRow c) e = (refl, refl)
   no-keep m (sendRow s) e = (refl, refl)
 
-  keeps-same : (m : ℕ) → m ≤ nk → keepsTo cycle rows p m ≡ map C (keepCode (keepsOf rows) (p / 2) m)
+  keeps-same : (m : ℕ) → m ≤ nk → keepsTo rows p m ≡ map C (keepCode (keepsOf rows) (p / 2) m)
   unfolding keepsTo keepCode
   keeps-same zero l = refl
   keeps-same (suc m) l = ap₂ (λ (x y : List Step). x ++ y) (keeps-same m (omega arith)) (keep-same m (rowAt rows m) (keep-front rows m l)) ∙ sym (map-append C (keepCode (keepsOf rows) (p / 2) m) _)
 
-  gives-same : (m : ℕ) → m ≤ nk → givesTo cycle rows p m ≡ map C (giveCode (keepsOf rows) (p / 2) m)
+  gives-same : (m : ℕ) → m ≤ nk → givesTo rows p m ≡ map C (giveCode (keepsOf rows) (p / 2) m)
   unfolding givesTo giveCode
   gives-same zero l = refl
   gives-same (suc m) l = ap₂ (λ (x y : List Step). x ++ y) (gives-same m (omega arith)) (give-same m (rowAt rows m) (keep-front rows m l)) ∙ sym (map-append C (giveCode (keepsOf rows) (p / 2) m) _)
 
-  keeps-rest : (k : ℕ) → nk + k ≤ length rows → keepsTo cycle rows p (nk + k) ≡ keepsTo cycle rows p nk
+  keeps-rest : (k : ℕ) → nk + k ≤ length rows → keepsTo rows p (nk + k) ≡ keepsTo rows p nk
   unfolding keepsTo
-  keeps-rest zero l = ap (keepsTo cycle rows p) (add-zero nk)
+  keeps-rest zero l = ap (keepsTo rows p) (add-zero nk)
   keeps-rest (suc k) l =
-      ap (keepsTo cycle rows p) (add-suc nk k)
-      ∙ ap (λ (x : List Step). keepsTo cycle rows p (nk + k) ++ x) (no-keep (nk + k) (rowAt rows (nk + k)) (ord .after (nk + k) (omega arith) (omega arith)) .0)
+      ap (keepsTo rows p) (add-suc nk k)
+      ∙ ap (λ (x : List Step). keepsTo rows p (nk + k) ++ x) (no-keep (nk + k) (rowAt rows (nk + k)) (ord .after (nk + k) (omega arith) (omega arith)) .0)
       ∙ append-nil _ ∙ keeps-rest k (omega arith)
 
-  gives-rest : (k : ℕ) → nk + k ≤ length rows → givesTo cycle rows p (nk + k) ≡ givesTo cycle rows p nk
+  gives-rest : (k : ℕ) → nk + k ≤ length rows → givesTo rows p (nk + k) ≡ givesTo rows p nk
   unfolding givesTo
-  gives-rest zero l = ap (givesTo cycle rows p) (add-zero nk)
+  gives-rest zero l = ap (givesTo rows p) (add-zero nk)
   gives-rest (suc k) l =
-      ap (givesTo cycle rows p) (add-suc nk k)
-      ∙ ap (λ (x : List Step). givesTo cycle rows p (nk + k) ++ x) (no-keep (nk + k) (rowAt rows (nk + k)) (ord .after (nk + k) (omega arith) (omega arith)) .1)
+      ap (givesTo rows p) (add-suc nk k)
+      ∙ ap (λ (x : List Step). givesTo rows p (nk + k) ++ x) (no-keep (nk + k) (rowAt rows (nk + k)) (ord .after (nk + k) (omega arith) (omega arith)) .1)
       ∙ append-nil _ ∙ gives-rest k (omega arith)
 
-  preparation-same : preparation cycle rows p ≡ map C (headOf (keepsOf rows) nk p)
-  preparation-same = ap (λ (b : Bool). cond b [] (keepsTo cycle rows p (length rows) ++ (Clear ∷ givesTo cycle rows p (length rows)))) (line-same p) ∙ go (plannedLine p)
+  pub preparation-same : preparation rows p ≡ map C (headOf (keepsOf rows) nk p)
+  preparation-same = ap (λ (b : Bool). cond b [] (keepsTo rows p (length rows) ++ (Clear ∷ givesTo rows p (length rows)))) (line-same p) ∙ go (plannedLine p)
     where
       K : List PlannedStep
       K = keepCode (keepsOf rows) (p / 2) nk
       G : List PlannedStep
       G = giveCode (keepsOf rows) (p / 2) nk
-      ks : keepsTo cycle rows p (length rows) ≡ map C K
-      ks = ap (keepsTo cycle rows p) (sym total) ∙ keeps-rest n (omega (arith, total)) ∙ keeps-same nk (omega arith)
-      gs : givesTo cycle rows p (length rows) ≡ map C G
-      gs = ap (givesTo cycle rows p) (sym total) ∙ gives-rest n (omega (arith, total)) ∙ gives-same nk (omega arith)
-      go : (b : Bool) → cond b [] (keepsTo cycle rows p (length rows) ++ (Clear ∷ givesTo cycle rows p (length rows))) ≡ map C (cond b [] (K ++ (PlannedStep.clear ∷ G)))
+      ks : keepsTo rows p (length rows) ≡ map C K
+      ks = ap (keepsTo rows p) (sym total) ∙ keeps-rest n (omega (arith, total)) ∙ keeps-same nk (omega arith)
+      gs : givesTo rows p (length rows) ≡ map C G
+      gs = ap (givesTo rows p) (sym total) ∙ gives-rest n (omega (arith, total)) ∙ gives-same nk (omega arith)
+      go : (b : Bool) → cond b [] (keepsTo rows p (length rows) ++ (Clear ∷ givesTo rows p (length rows))) ≡ map C (cond b [] (K ++ (PlannedStep.clear ∷ G)))
       go true = refl
       go false = ap₂ (λ (x y : List Step). x ++ (Clear ∷ y)) ks gs ∙ sym (map-append C K (PlannedStep.clear ∷ G))
 
   abbrev W : List PlannedStep
   W = headOf (keepsOf rows) nk p
 
-  opening-length : openingLength cycle rows p ≡ openLen h W
+  pub opening-length : openingLength cycle rows p ≡ openLen h W
   opening-length = ap₂ (λ (x : ℕ) (b : Bool). x + cond b 0 2) (ap length preparation-same ∙ length-map W C) (is-date 0)
 
   opening-same : opening cycle rows p ≡ map C (plannedOpening h W)

@@ -49,6 +49,11 @@ act p i (keepRow k) = Clear
 act p i (callRow c) = Call i (c .work) (c .inputs) (c .output) (c .duration)
 act p i (sendRow s) = cond (eqb (s .station) (stationOf p)) (Send i (s .variable) (s .duration)) (Receive (s .variable) (s .duration))
 
+-- TESTs that go to address b where they fail.
+abbrev pub testsCode : List Test → ℕ → List Step
+testsCode [] b = []
+testsCode (t ∷ ts) b = testStep (t .variable) (t .relation) (t .word) b ∷ testsCode ts b
+
 -- KEEP and GIVE of row n, if it is a keep row of program p's station; its cell has the row's own number.
 abbrev pub keepStep : ℕ → ℕ → Row → List Step
 keepStep p n (keepRow k) = cond (eqb (k .station) (stationOf p)) (Keep (k .taken) n ∷ []) []
@@ -59,6 +64,19 @@ abbrev pub giveStep : ℕ → ℕ → Row → List Step
 giveStep p n (keepRow k) = cond (eqb (k .station) (stationOf p)) (Give n (k .given) (k .first) ∷ []) []
 giveStep p n (callRow c) = []
 giveStep p n (sendRow s) = []
+
+-- KEEPs and GIVEs of the first n rows, for program p.
+unfoldable pub keepsTo : List Row → ℕ → ℕ → List Step
+keepsTo rows p zero = []
+keepsTo rows p (suc n) = keepsTo rows p n ++ keepStep p n (rowAt rows n)
+
+unfoldable pub givesTo : List Row → ℕ → ℕ → List Step
+givesTo rows p zero = []
+givesTo rows p (suc n) = givesTo rows p n ++ giveStep p n (rowAt rows n)
+
+-- A work program begins with a KEEP for each keep row of its station, CLEAR, and a GIVE for each.
+abbrev pub preparation : List Row → ℕ → List Step
+preparation rows p = cond (isLine p) [] (keepsTo rows p (length rows) ++ (Clear ∷ givesTo rows p (length rows)))
 
 -- One program: the cycle's length, the rows of the sheet, and the program's number.
 module _ (cycle : ℕ) (rows : List Row) (p : ℕ) where
@@ -107,11 +125,6 @@ module _ (cycle : ℕ) (rows : List Row) (p : ℕ) where
   abbrev pub waitFor : ℕ → ℕ → ℕ → Step
   waitFor o d end = Future (firstDate end - d) (cond (ltb (firstDate end) cycle) (address o (firstDate end)) 0)
 
-  -- A failed test goes to address b.
-  unfoldable pub testsCode : List Test → ℕ → List Step
-  testsCode [] b = []
-  testsCode (t ∷ ts) b = testStep (t .variable) (t .relation) (t .word) b ∷ testsCode ts b
-
   -- The code of row i, which stands at address b: its failed tests go to what stands after it.
   abbrev pub rowCode : ℕ → ℕ → ℕ → ℕ → List Step
   rowCode o d i b =
@@ -135,25 +148,12 @@ module _ (cycle : ℕ) (rows : List Row) (p : ℕ) where
   codeTo opening zero = opening
   codeTo opening (suc d) = codeTo opening d ++ blockCode (length opening) d
 
-  -- KEEPs and GIVEs of the first n rows.
-  unfoldable pub keepsTo : ℕ → List Step
-  keepsTo zero = []
-  keepsTo (suc n) = keepsTo n ++ keepStep p n (rowAt rows n)
-
-  unfoldable pub givesTo : ℕ → List Step
-  givesTo zero = []
-  givesTo (suc n) = givesTo n ++ giveStep p n (rowAt rows n)
-
-  -- A work program begins with a KEEP for each keep row of its station, CLEAR, and a GIVE for each.
-  abbrev pub preparation : List Step
-  preparation = cond (isLine p) [] (keepsTo (length rows) ++ (Clear ∷ givesTo (length rows)))
-
   -- The opening: the preparation, and unless 0 is a date the wait for the first one.
   abbrev pub openingLength : ℕ
-  openingLength = length preparation + cond (isDate 0) 0 2
+  openingLength = length (preparation rows p) + cond (isDate 0) 0 2
 
   abbrev pub opening : List Step
-  opening = preparation ++ cond (isDate 0) [] (waitFor openingLength 0 0 ∷ Halt ∷ [])
+  opening = preparation rows p ++ cond (isDate 0) [] (waitFor openingLength 0 0 ∷ Halt ∷ [])
 
   -- The whole program.
   abbrev pub programCode : List Step

@@ -113,4 +113,4 @@ pub record Turns-stand : Type 0 where
       → (holds : Test → Bool) (done : Done) → Turn (h .cycle) rows p holds d (blockAt (h .cycle) rows p d) done done
   pub opened : (h : Head) (rows : List Row) → Sheet h rows → (p : ℕ)
       → (holds : Test → Bool) (done : Done)
-      → Turn (h .cycle) rows p holds 0 0 done record { performed = done .performed ++ preparation (h .cycle) rows p; next = done .next }
+      → Turn (h .cycle) rows p holds 0 0 done record { performed = done .performed ++ preparation rows p; next = done .next }
