@@ -20,6 +20,7 @@ use Rattle.std.proofs.shelf.Lists.{getD-replicate, length-replicate, getD-past}
 use Rattle.semantics.specs.declared.state.Mark.{Mark}
 use Rattle.semantics.proofs.Tallies.{requests-tally}
 use Rattle.semantics.proofs.Lines.{line-stays, granted-more, granted-same}
+use Rattle.semantics.proofs.Halting.{halts}
 use Rattle.semantics.proofs.Counts.{Fits, fits-up, worldOf, tick-fits}
 use Rattle.semantics.specs.Bounds.{CountsWithin}
 use Rattle.semantics.specs.Machine.{World, Outcome, blankMark, newUnit, newState, markIn, limit, ofTheRun, at, withStopped, parts, counted, tick}
@@ -162,4 +163,4 @@ module _ (m : Model) (programs : List (List Step)) where
   }
 
 pub laws-stand : (m : Model) → Laws-stand m
-laws-stand m programs = machine-laws m programs
+laws-stand m = record { machine = machine-laws m; halts = halts m }

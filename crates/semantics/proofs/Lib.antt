@@ -10,4 +10,5 @@ pub mod Kept
 pub mod Tallies
 pub mod Lines
 pub mod Counts
+pub mod Halting
 pub mod Ending

@@ -11,11 +11,12 @@ use Rattle.fault.specs.declared.refusal.Fault.{Fault}
 use Rattle.fault.specs.declared.refusal.Refusal.the-variants.{LimitReached, Stopped}
 use Rattle.fault.specs.declared.place.TickPlace.{TickPlace}
 use Rattle.netcode.specs.declared.step.Step.{Step}
+use Rattle.netcode.specs.Laws.{Lawful}
 use Rattle.plant.specs.Model.{Model}
 use Rattle.semantics.specs.declared.state.Request.{Request}
 use Rattle.semantics.specs.declared.state.Request.the-variants.{WordAt, MarkAt}
 use Rattle.semantics.specs.declared.state.Message.{Message}
-use Rattle.semantics.specs.Machine.{World, Outcome, limit, markIn, ofTheRun, tick}
+use Rattle.semantics.specs.Machine.{World, Outcome, limit, markIn, ofTheRun, steps, tick}
 use Rattle.semantics.specs.Requests.{Rehearsal, rehearsed, served, servedAll, atMaking, afterRequests}
 use Rattle.semantics.specs.Bounds.{CountsWithin}
 use Rattle.semantics.specs.Events.{plantAfter, timesOf, events}
@@ -68,6 +69,14 @@ module _ (m : Model) (programs : List (List Step)) where
         → (servedAll m programs (rs ++ ss) w .world ≡ servedAll m programs ss (servedAll m programs rs w .world) .world)
         × (servedAll m programs (rs ++ ss) w .replies ≡ servedAll m programs rs w .replies ++ servedAll m programs ss (servedAll m programs rs w .world) .replies)
 
+-- A program that keeps the rules comes to HALT within its length: from an address on, as many steps as are left
+-- suffice, and one more changes nothing.
+abbrev pub Halts-in-time : Model → Type 0
+Halts-in-time m =
+    (code : List Step) → Lawful code → (n program address : ℕ) (w : World (m .State)) → address < length code → length code ≤ address + n
+    → steps m (suc n) code program address w ≡ steps m n code program address w
+
 -- For any programs.
-abbrev pub Laws-stand : Model → Type 0
-Laws-stand m = (programs : List (List Step)) → Machine-laws m programs
+pub record Laws-stand (m : Model) : Type 0 where
+  pub machine : (programs : List (List Step)) → Machine-laws m programs
+  pub halts : Halts-in-time m
