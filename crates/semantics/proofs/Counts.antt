@@ -34,9 +34,11 @@ written s row c f g v h k = go (cases-lt row (length (s .marks)))
   where
     x : Mark
     x = record { count = markIn s row .count + 1; tick = s .granted; first = f; second = g; given = Some v }
+
     on : (b : Bool) → cond b x (markIn s k) .count ≤ c + 1
     on true = omega (arith, h row)
     on false = omega (arith, h k)
+
     go : (row < length (s .marks)) ⊎ (length (s .marks) ≤ row) → getD (set (s .marks) row x) k blankMark .count ≤ c + 1
     go (inl l) = subst (λ (y : Mark). y .count ≤ c + 1) (sym (set-read (s .marks) row k x blankMark l)) (on (eqb row k))
     go (inr l) = subst (λ (xs : List Mark). getD xs k blankMark .count ≤ c + 1) (sym (set-past (s .marks) row x l)) (omega (arith, h k))
@@ -96,9 +98,10 @@ module _ (m : Model) (j c : ℕ) (lj : j < 16) where
       go : (b : Bool) → isBusy (w .state) j ≡ b → (k : Bool) → StepOnce (cond b (Stepped.refused (real.faultAt UnitBusy j address) w) (cond k (onto (address + 1) (real.answered m row work words output duration j w)) (Stepped.refused (real.unknownAt (stationOf j) work j address) w)))
       go true e k = o
       go false e false = o
-      go false e true = record
-        { size = unit-size (w .state) _ (o .size)
-        ; within = inr (ap (λ (u : UnitState). not (isIdle (u .job))) (unit-here (w .state) _ (o .size)), written (w .state) row c _ _ _ (idle-within w o e)) }
+      go false e true = record {
+        size = unit-size (w .state) _ (o .size);
+        within = inr (ap (λ (u : UnitState). not (isIdle (u .job))) (unit-here (w .state) _ (o .size)), written (w .state) row c _ _ _ (idle-within w o e));
+      }
 
   on-send : (o : Option ℕ) (row duration address : ℕ) (w : World S) → Once w → StepOnce (real.sent m o row duration j address w)
   on-send None row duration address w o = o
@@ -106,9 +109,11 @@ module _ (m : Model) (j c : ℕ) (lj : j < 16) where
     where
       line : isBusy (w .state) j ≡ false → (x : Option Message) → StepOnce (real.onLine m x row word duration j address w)
       line e (Some message) = o
-      line e None = record
-        { size = unit-size (w .state) _ (o .size)
-        ; within = inr (ap (λ (u : UnitState). not (isIdle (u .job))) (unit-here (w .state) _ (o .size)), written (w .state) row c _ _ _ (idle-within w o e)) }
+      line e None = record {
+        size = unit-size (w .state) _ (o .size);
+        within = inr (ap (λ (u : UnitState). not (isIdle (u .job))) (unit-here (w .state) _ (o .size)), written (w .state) row c _ _ _ (idle-within w o e));
+      }
+
       go : (b : Bool) → isBusy (w .state) j ≡ b → StepOnce (cond b (Stepped.refused (real.faultAt UnitBusy j address) w) (real.onLine m (w .state .line) row word duration j address w))
       go true e = o
       go false e = line e (w .state .line)
@@ -119,6 +124,7 @@ module _ (m : Model) (j c : ℕ) (lj : j < 16) where
       way : (b : Bool) → StepOnce (cond b (onto (address + 1) w) (onto to w))
       way true = o
       way false = o
+
       held : (x : Option ℕ) → StepOnce (real.tested m x relation word to j address w)
       held None = o
       held (Some v) = way _
@@ -126,6 +132,7 @@ module _ (m : Model) (j c : ℕ) (lj : j < 16) where
     where
       v : World S
       v = real.later m ticks to j w
+
       go : CountsWithin c (w .state) ⊎ ((isBusy (w .state) j ≡ true) × CountsWithin (c + 1) (w .state)) → CountsWithin c (v .state) ⊎ ((isBusy (v .state) j ≡ true) × CountsWithin (c + 1) (v .state))
       go (inl h) = inl h
       go (inr (b, h)) = inr (ap (λ (u : UnitState). not (isIdle (u .job))) (unit-here (w .state) _ (o .size)) ∙ b, h)
@@ -167,8 +174,10 @@ module _ (m : Model) (j c : ℕ) (lj : j < 16) where
     where
       a : ℕ
       a = unitIn (w .state) j .address
+
       u : World S
       u = real.at w (real.withTimer (w .state) j None a)
+
       go : (d b : Bool) → Fits m (c + 1) (worldOf m (cond d (cond b (Outcome.refused (real.faultAt UnitBusy j a) w) (real.steps m (length code + 1) code j a u)) (Outcome.done w)))
       go false b = fits-up m c (c + 1) w (omega arith) f
       go true true = fits-up m c (c + 1) w (omega arith) f
@@ -196,6 +205,7 @@ module _ (m : Model) where
           on : (b : Bool) → Fits m c (worldOf m (cond b (Outcome.done (real.stored m j variable (x .word) w)) (Outcome.refused (real.faultAt NoMessage j address) w)))
           on true = record { size = length-set (w .state .units) j _ ∙ f .size; within = f .within }
           on false = f
+
       go : (b : Bool) → Fits m c (worldOf m (cond b (real.heard m (w .state .line) clock j variable address w) (Outcome.done w)))
       go true = heard (w .state .line)
       go false = f
@@ -225,19 +235,25 @@ module _ (m : Model) where
       where
         N : ℕ
         N = length programs
+
         t : ℕ
         t = w .state .granted + 1
+
         more : World (m .State) → Outcome (m .State)
         more v = real.andThen (real.secondPart m programs t N v) (λ u. Outcome.done (real.leaves m t u))
+
         last : (o : Outcome (m .State)) → Fits m (c + N) (worldOf m o) → Fits m (c + N) (worldOf m (real.andThen o (λ u. Outcome.done (real.leaves m t u))))
         last (Outcome.done u) x = record { size = x .size; within = x .within }
         last (Outcome.refused y u) x = x
+
         two : (o : Outcome (m .State)) → Fits m (c + N) (worldOf m o) → Fits m (c + N) (worldOf m (real.andThen o more))
         two (Outcome.done v) x = last (real.secondPart m programs t N v) (second-fits t N (c + N) v x)
         two (Outcome.refused y v) x = x
+
         count : (o : Outcome (m .State)) → Fits m (c + N) (worldOf m o) → Fits m (c + N) (worldOf m (real.counted m programs (w .state .granted) o))
         count (Outcome.done v) x = record { size = x .size; within = x .within }
         count (Outcome.refused y v) x = record { size = x .size; within = x .within }
+
         go : (s l : Bool) → Fits m (c + N) (worldOf m (cond s (Outcome.refused (real.ofTheRun Stopped) w) (cond l (real.counted m programs (w .state .granted) (real.parts m programs w)) (Outcome.refused (real.ofTheRun LimitReached) w))))
         go true l = fits-up m c (c + N) w (omega arith) f
         go false false = fits-up m c (c + N) w (omega arith) f

@@ -108,6 +108,7 @@ module _ (m : Model) (programs : List (List Step)) where
           where
             refused-same : (u : World S) (y : Fault TickPlace) → _≡_ {A = Outcome S} (Outcome.refused y u) (Outcome.refused x v) → u ≡ v
             refused-same u y e = cc
+
             stop : (w .state .stopped ≡ true) ⊎ (w .state .stopped ≡ false) → (w .state .granted < limit) ⊎ (limit ≤ w .state .granted) → Within v
             stop (inl e) l = subst Within (refused-same w (ofTheRun Stopped) (sym (stopped w e) ∙ h)) (inl f)
             stop (inr e) (inr l) = subst Within (refused-same w (ofTheRun LimitReached) (sym (cond-false _ _ _ e ∙ cond-false _ _ _ (le-ltb (w .state .granted) limit l)) ∙ h)) (inl f)

@@ -52,6 +52,7 @@ module _ (m : Model) where
       line : (x : Option Message) → Onward len a (real.onLine m x row word duration j a w)
       line None = inl refl
       line (Some y) = tt
+
       go : (b : Bool) → Onward len a (cond b (Stepped.refused (real.faultAt UnitBusy j a) w) (real.onLine m (w .state .line) row word duration j a w))
       go true = tt
       go false = line (w .state .line)
@@ -62,6 +63,7 @@ module _ (m : Model) where
       way : (b : Bool) → Onward len a (cond b (onto (a + 1) w) (onto to w))
       way true = inl refl
       way false = inr (h .1, h .2)
+
       held : (o : Option ℕ) → Onward len a (real.tested m o relation word to j a w)
       held None = tt
       held (Some v) = way _
@@ -87,8 +89,10 @@ module _ (m : Model) where
     where
       x : Step
       x = getD code a Halt
+
       here : getD code a noStep ≡ x
       here = getD-default code a noStep Halt l
+
       last : (a + 1 < length code) ⊎ (length code ≤ a + 1)
           → ((b : ℕ) (v : World S) → b < length code → length code ≤ b + n → real.steps m (suc n) code j b v ≡ real.steps m n code j b v)
           → real.onward m (real.performed m x j a w) (real.steps m (suc n) code j) ≡ real.onward m (real.performed m x j a w) (real.steps m n code j)

@@ -210,9 +210,11 @@ module _ (m : Model) where
       where
         c : ℕ
         c = w .state .granted + 1
+
         last : (u : World S) (o : Outcome S) → Stays u (worldOf o) → worldOf (real.andThen o (λ u. Outcome.done (real.leaves m c u))) .state .granted ≡ u .state .granted
         last u (Outcome.done y) t = t .clock
         last u (Outcome.refused f y) t = t .clock
+
         go : (o : Outcome S) → Stays w (worldOf o)
             → worldOf (real.andThen o (λ v. real.andThen (real.secondPart m programs c (length programs) v) (λ u. Outcome.done (real.leaves m c u)))) .state .granted ≡ w .state .granted
         go (Outcome.done v) t = last v (real.secondPart m programs c (length programs) v) (second-stays c (length programs) v) ∙ t .clock
@@ -224,6 +226,7 @@ module _ (m : Model) where
         count : (o : Outcome S) → real.counted m programs (w .state .granted) o ≡ Outcome.done v → v .state .granted ≡ w .state .granted + 1
         count (Outcome.done u) k = sym (ap (λ (y : World S). y .state .granted) (done-same (real.at u (real.withGranted (u .state) (w .state .granted + 1))) v k))
         count (Outcome.refused f u) k = never (real.at u (real.withStopped (u .state))) v f k
+
         go : (s l : Bool) → cond s (Outcome.refused (real.ofTheRun Stopped) w) (cond l (real.counted m programs (w .state .granted) (real.parts m programs w)) (Outcome.refused (real.ofTheRun LimitReached) w)) ≡ Outcome.done v
             → v .state .granted ≡ w .state .granted + 1
         go true l k = never w v (real.ofTheRun Stopped) k
@@ -235,11 +238,14 @@ module _ (m : Model) where
       where
         refused-same : (u : World S) (g : Fault TickPlace) → _≡_ {A = Outcome S} (Outcome.refused g u) (Outcome.refused f v) → u ≡ v
         refused-same u g e = cc
+
         no : {B : Type 0} (u : World S) → _≡_ {A = Outcome S} (Outcome.done u) (Outcome.refused f v) → B
         no u e = absurd (let z : _≡_ {A = ℕ} 0 1 = cc in omega arith)
+
         count : (o : Outcome S) → worldOf o .state .granted ≡ w .state .granted → real.counted m programs (w .state .granted) o ≡ Outcome.refused f v → v .state .granted ≡ w .state .granted
         count (Outcome.done u) e k = no (real.at u (real.withGranted (u .state) (w .state .granted + 1))) k
         count (Outcome.refused g u) e k = sym (ap (λ (y : World S). y .state .granted) (refused-same (real.at u (real.withStopped (u .state))) g k)) ∙ e
+
         go : (s l : Bool) → cond s (Outcome.refused (real.ofTheRun Stopped) w) (cond l (real.counted m programs (w .state .granted) (real.parts m programs w)) (Outcome.refused (real.ofTheRun LimitReached) w)) ≡ Outcome.refused f v
             → v .state .granted ≡ w .state .granted
         go true l k = sym (ap (λ (y : World S). y .state .granted) (refused-same w (real.ofTheRun Stopped) k))
