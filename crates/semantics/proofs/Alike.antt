@@ -2,21 +2,20 @@
 use mathlib.Core.Path.{_≡_, refl, sym, ap, ap₂, _∙_, subst}
 use mathlib.Core.Bool.{Bool, true, false, cond, not, _&&_}
 use mathlib.Core.Logic.{_⊎_, inl, inr}
-use mathlib.Core.List.{List, [], _∷_}
-use Prim.Native.Nat.{ℕ, zero, suc, _+_, _*_, _/_, _≤_, _<_}
+use Prim.Native.Nat.{ℕ, suc, _+_, _/_, _≤_, _<_}
 use native.Mathlib.Omega.{arith}
 use native.Mathlib.Numerals.{add-one}
 use lib.Dec.{eqb, ltb}
-use lib.ListN.{length, getD, set}
+use lib.ListN.{length}
 use Rattle.std.proofs.shelf.Lists.{length-set}
-use Rattle.std.proofs.shelf.Tests.{cases-eq, cases-lt, cases-bool, eq-eqb, ne-eqb, eqb-true, cond-true, cond-false}
+use Rattle.std.proofs.shelf.Tests.{cases-eq, eq-eqb, ne-eqb, cond-true, cond-false}
 use Rattle.std.specs.declared.option.Option.{Option}
 use Rattle.std.specs.declared.option.Option.the-variants.{Some, None}
 use Rattle.plant.specs.Model.{Model, Work, knows, leaves}
 use Rattle.plant.specs.Replies.{asked}
 use Rattle.plant.specs.declared.works.Words.{Words}
 use Rattle.schedule.specs.Rows.{Row, word1, word2, asked as askedOf}
-use Rattle.schedule.specs.Machine.{Keep, Bench, UnitState as PlannedUnit, Job as PlannedJob, Message as PlannedMessage, Mark as PlannedMark, said, isNone, isLine, takeIn, orFirst, own, begin, wait, taken, wiped, put, store, release, leave, left}
+use Rattle.schedule.specs.Machine.{Keep, Bench, UnitState as PlannedUnit, Job as PlannedJob, Message as PlannedMessage, Mark as PlannedMark, said, isLine, takeIn, orFirst, own, begin, wait, taken, wiped, put, store, release, leave, left}
 use Rattle.semantics.specs.declared.state.Mark.{Mark}
 use Rattle.semantics.specs.declared.state.Job.{Job}
 use Rattle.semantics.specs.declared.state.Job.the-variants.{Idle, Store, Carry, Listen}
@@ -25,7 +24,7 @@ use Rattle.semantics.specs.declared.state.Message.{Message}
 use Rattle.semantics.specs.declared.state.State.{State}
 use Rattle.semantics.specs.Reading.{orFirst as orFirstWord}
 use Rattle.semantics.specs.Machine as real
-use Rattle.semantics.specs.Machine.{World, placeOf, wordIn, cellIn, markIn, unitIn, withWord, withCell, withMark, withUnit, withLine, withJob, withTimer, withCleared, blankMark, newUnit, isIdle, emptied}
+use Rattle.semantics.specs.Machine.{World, placeOf, wordIn, cellIn, markIn, unitIn, withWord, withMark, withUnit, withJob, withTimer, withCleared, blankMark, newUnit}
 use Rattle.semantics.proofs.Lists.{set-read, place-same, emptied-read, length-emptied}
 use Rattle.semantics.proofs.Guarded.{guarded}
 

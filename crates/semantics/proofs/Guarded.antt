@@ -1,5 +1,5 @@
 -- A plant's answers and next states, with unknown works answered 0 and left alone, keep the law for all works.
-use mathlib.Core.Path.{_≡_, refl, sym, ap, _∙_}
+use mathlib.Core.Path.{_≡_, refl}
 use mathlib.Core.Bool.{Bool, true, false, cond}
 use Prim.Native.Nat.{ℕ}
 use Rattle.plant.specs.Model.{Model, Work, Apart, Elsewhere, knows, leaves}

@@ -1,13 +1,13 @@
 -- The run promise.
 use mathlib.Core.Path.{_≡_, refl, sym, ap, ap₂, _∙_, subst}
-use mathlib.Core.Bool.{Bool, true, false, cond, not, _&&_}
+use mathlib.Core.Bool.{Bool, true, false, cond, _&&_}
 use mathlib.Core.Logic.{_⊎_, inl, inr}
-use mathlib.Core.List.{List, [], _∷_}
+use mathlib.Core.List.{List}
 use Prim.Native.Nat.{ℕ, zero, suc, _+_, _-_, _*_, _≤_, _<_, min}
 use native.Mathlib.Omega.{arith}
-use lib.Dec.{eqb, ltb}
+use lib.Dec.{ltb}
 use lib.ListN.{length}
-use Rattle.std.proofs.shelf.Tests.{cases-lt, cases-bool, cond-true, cond-false, both-ways, lt-ltb, le-ltb}
+use Rattle.std.proofs.shelf.Tests.{cases-lt, cond-true, cond-false, both-ways, lt-ltb, le-ltb}
 use Rattle.std.specs.declared.option.Option.{Option}
 use Rattle.std.specs.declared.option.Option.the-variants.{Some, None}
 use Rattle.fault.specs.declared.refusal.Refusal.the-variants.{LimitReached}
@@ -20,7 +20,7 @@ use Rattle.judge.specs.Verdict.{isKeep}
 use Rattle.plant.specs.Model.{Model, Apart, leaves}
 use Rattle.plant.specs.Fit.{KnowsEach}
 use Rattle.schedule.specs.Rows.{Row as Planned, ends}
-use Rattle.schedule.specs.Machine.{Bench, Mark as PlannedMark}
+use Rattle.schedule.specs.Machine.{Mark as PlannedMark}
 use Rattle.schedule.specs.Marks.{countb, MarkIs, counts, told}
 use Rattle.schedule.specs.Cycles.{blankMark as blankPlanned, afterCycles as plannedCycles}
 use Rattle.schedule.specs.Plain.{HoldsReading}
@@ -33,18 +33,17 @@ use Rattle.translate.proofs.Lawfulness.{programs-lawful}
 use Rattle.translate.proofs.Maps.{keep-few, keep-front, date-same, end-same}
 use Rattle.semantics.specs.declared.state.Mark.{Mark}
 use Rattle.semantics.specs.declared.state.Request.{Request}
-use Rattle.semantics.specs.declared.state.Request.the-variants.{Tick, Rehearse}
-use Rattle.semantics.specs.declared.state.Reply.{Reply}
+use Rattle.semantics.specs.declared.state.Request.the-variants.{Rehearse}
 use Rattle.semantics.specs.declared.state.Reply.the-variants.{Granted as grantedReply, Refused, Made}
 use Rattle.semantics.specs.Machine as real
-use Rattle.semantics.specs.Machine.{World, Outcome, limit, blankMark, wordIn, cellIn, markIn, ofTheRun}
-use Rattle.semantics.specs.Requests.{ticked, served, rehearsed}
-use Rattle.semantics.specs.Reading.{afterCycles, performs, words}
-use Rattle.semantics.specs.Promise.{ticksAsked, howMany, IsSend, MarkTells, HoldsAfter, Promised, Run-promise, countsFor, markOf, tickOf, runAfter, Occupies}
+use Rattle.semantics.specs.Machine.{World, Outcome, limit, blankMark, markIn, ofTheRun}
+use Rattle.semantics.specs.Requests.{ticked, served}
+use Rattle.semantics.specs.Reading.{afterCycles, performs}
+use Rattle.semantics.specs.Promise.{ticksAsked, howMany, IsSend, MarkTells, HoldsAfter, Promised, Run-promise, countsFor, markOf, runAfter, Occupies}
 use Rattle.semantics.proofs.Guarded.{guarded}
-use Rattle.semantics.proofs.Alike.{Alike, asMark}
+use Rattle.semantics.proofs.Alike.{asMark}
 use Rattle.semantics.proofs.Readings.{ReadingAlike, cycles-alike, performs-same, words-alike}
-use Rattle.semantics.proofs.Runs.{At, Granted, Rehearsed, lim, ord, fit, accepted, lawful, bases, run, at-tick, at-limit, at-rehearse, after-requests}
+use Rattle.semantics.proofs.Runs.{At, Granted, lim, ord, fit, accepted, lawful, bases, at-tick, at-limit, at-rehearse, after-requests}
 
 is-keep : (x : Row) → IsKeep x → isKeep x ≡ true
 is-keep (keepRow k) i = refl
@@ -111,9 +110,10 @@ module _ (m : Model) (law : Apart m) (h : Head) (rows : List Row) (sheet : Sheet
       same-mark c _ _ _ _ _ _ _ _ (ap (λ (d : ℕ). q * L + d) (sym (date-same (rowAt rows (nk + k))))) (sym (w .first)) (sym (w .second)) (sym (w .given))
 
   mark-tells : (T k : ℕ) (x : PlannedMark) → k < n → MarkIs (leaves m) (guarded m) (m .known) r n L (keepsOf rows) nk start T k x → MarkTells m h rows start T (nk + k) (asMark x)
-  mark-tells T k x l is = record
-    { count = λ b lb. is .count b lb ∙ count-same _ _ (λ q. counts-same T k q l) b
-    ; latest = go (is .latest) }
+  mark-tells T k x l is = record {
+    count = λ b lb. is .count b lb ∙ count-same _ _ (λ q. counts-same T k q l) b;
+    latest = go (is .latest);
+  }
     where
       go : (((q : ℕ) → counts (leaves m) (guarded m) (m .known) r n L (keepsOf rows) nk start T k q ≡ false) × (x ≡ blankPlanned))
           ⊎ ((q : ℕ) × (counts (leaves m) (guarded m) (m .known) r n L (keepsOf rows) nk start T k q ≡ true) × ((p : ℕ) → counts (leaves m) (guarded m) (m .known) r n L (keepsOf rows) nk start T k p ≡ true → p ≤ q)
@@ -154,27 +154,32 @@ module _ (m : Model) (law : Apart m) (h : Head) (rows : List Row) (sheet : Sheet
 
   -- A run after T granted ticks, of A that were asked for.
   after : (rs : List Request) → There (min (ticksAsked rs) limit) (runAfter m h rows start rs) → HoldsAfter m h rows start rs
-  after rs a = record
-    { granted = a .going .granted
-    ; tick = tick-reply (ticksAsked rs) T w refl a
-    ; rehearsal = λ k. rehearse-reply (ticksAsked rs) T k w refl a
-    ; places = λ q e s x ls lx. a .alike .places s x (omega (arith, lim m law h rows sheet known start .fewStations)) lx ∙ holds-at T w a q (sym (a .going .granted) ∙ e) .places s x ∙ sym (read q .places s x)
-    ; cells = λ q e i l k. a .alike .cells i (omega (arith, keep-below i l k, lim m law h rows sheet known start .keeps)) ∙ holds-at T w a q (sym (a .going .granted) ∙ e) .cells i ∙ sym (read q .cells i)
-    ; plant = λ q e. a .alike .plant ∙ holds-at T w a q (sym (a .going .granted) ∙ e) .plant ∙ sym (read q .plant)
-    ; marks = λ i l k. marks i l (not-keep (rowAt rows i) k) }
+  after rs a = record {
+    granted = a .going .granted;
+    tick = tick-reply (ticksAsked rs) T w refl a;
+    rehearsal = λ k. rehearse-reply (ticksAsked rs) T k w refl a;
+    places = λ q e s x ls lx. a .alike .places s x (omega (arith, lim m law h rows sheet known start .fewStations)) lx ∙ holds-at T w a q (sym (a .going .granted) ∙ e) .places s x ∙ sym (read q .places s x);
+    cells = λ q e i l k. a .alike .cells i (omega (arith, keep-below i l k, lim m law h rows sheet known start .keeps)) ∙ holds-at T w a q (sym (a .going .granted) ∙ e) .cells i ∙ sym (read q .cells i);
+    plant = λ q e. a .alike .plant ∙ holds-at T w a q (sym (a .going .granted) ∙ e) .plant ∙ sym (read q .plant);
+    marks = λ i l k. marks i l (not-keep (rowAt rows i) k);
+  }
     where
       T : ℕ
       T = min (ticksAsked rs) limit
+
       w : World S
       w = runAfter m h rows start rs
+
       read : (q : ℕ) → ReadingAlike m L rows (ord m law h rows sheet known start) known (afterCycles m rows start q) (plannedCycles (leaves m) (guarded m) r n (keepsOf rows) nk start q)
       read q = cycles-alike m L rows (ord m law h rows sheet known start) known start q
+
       keep-below : (i : ℕ) → i < length rows → IsKeep (rowAt rows i) → i < nk
       keep-below i l k = go (cases-lt i nk)
         where
           go : (i < nk) ⊎ (nk ≤ i) → i < nk
           go (inl q) = q
           go (inr q) = absurd (both-ways (isKeep (rowAt rows i)) (ord m law h rows sheet known start .after i q l) (is-keep (rowAt rows i) k))
+
       marks : (i : ℕ) → i < length rows → isKeep (rowAt rows i) ≡ false → MarkTells m h rows start (w .state .granted) i (markIn (w .state) i)
       marks i l k =
           let ge = beyond i l k in
@@ -201,19 +206,21 @@ module _ (m : Model) (law : Apart m) (h : Head) (rows : List Row) (sheet : Sheet
           let d : dateOf (rowAt rows i) ≡ r k .date = date-same (rowAt rows i) ∙ ap (λ (z : ℕ). asRow (rowAt rows z) .date) e in
           let f : endOf (rowAt rows i) ≡ r k .date + r k .dur = end-same (rowAt rows i) ∙ ap (λ (z : ℕ). ends (asRow (rowAt rows z))) e in
           (omega arith, omega arith)
+
       go : (k : ℕ) × (k < n) × (i ≡ nk + k) × (r k .sends ≡ true) → (k : ℕ) × (k < n) × (j ≡ nk + k) × (r k .sends ≡ true) → (q ≡ p) × (i ≡ j)
       go (k, lk, ei, sk) (o, lo, ej, so) =
           let z = sends-apart (leaves m) (guarded m) (m .known) r n L (keepsOf rows) nk (bases m law h rows sheet known start) start (accepted m law h rows sheet known start) q k p o x lk lo sk so
-                (sym (performs-same m L rows (ord m law h rows sheet known start) known start q k lk) ∙ subst (λ (z : ℕ). performs m rows start q z ≡ true) ei di)
-                (sym (performs-same m L rows (ord m law h rows sheet known start) known start p o lo) ∙ subst (λ (z : ℕ). performs m rows start p z ≡ true) ej dj)
-                (moved q k x i ei oi) (moved p o x j ej oj) in
+          (sym (performs-same m L rows (ord m law h rows sheet known start) known start q k lk) ∙ subst (λ (z : ℕ). performs m rows start q z ≡ true) ei di)
+          (sym (performs-same m L rows (ord m law h rows sheet known start) known start p o lo) ∙ subst (λ (z : ℕ). performs m rows start p z ≡ true) ej dj)
+          (moved q k x i ei oi) (moved p o x j ej oj) in
           (z .0, ei ∙ ap (λ (y : ℕ). nk + y) (z .1) ∙ sym ej)
 
   pub promised : Promised m h rows start
-  promised = record
-    { making = programs-lawful .unbroken h rows sheet
-    ; always = λ rs. after rs (after-requests m law h rows sheet known start rs)
-    ; sends = sends }
+  promised = record {
+    making = programs-lawful .unbroken h rows sheet;
+    always = λ rs. after rs (after-requests m law h rows sheet known start rs);
+    sends = sends;
+  }
 
 pub run-promise : (m : Model) → Apart m → Run-promise m
 run-promise m law h rows sheet known start = promised m law h rows sheet known start

@@ -7,3 +7,8 @@ pub mod Ticking
 pub mod Readings
 pub mod Runs
 pub mod Kept
+pub mod Tallies
+pub mod Lines
+pub mod Counts
+pub mod Halting
+pub mod Ending

@@ -3,12 +3,12 @@ use mathlib.Core.Path.{_≡_, refl, sym, ap, ap₂, _∙_, subst}
 use mathlib.Core.Bool.{Bool, true, false, cond, not, _&&_}
 use mathlib.Core.Logic.{_⊎_, inl, inr}
 use mathlib.Core.List.{List, [], _∷_}
-use Prim.Native.Nat.{ℕ, zero, suc, _+_, _-_, _*_, _≤_, _<_}
+use Prim.Native.Nat.{ℕ, zero, suc, _+_, _-_, _≤_, _<_}
 use native.Mathlib.Omega.{arith}
 use native.Mathlib.Nat.{add-zero, add-suc}
 use lib.Dec.{eqb, ltb}
 use lib.ListN.{length}
-use Rattle.std.proofs.shelf.Tests.{cases-lt, cases-bool, cond-true, cond-false, both-ways, lt-ltb, le-ltb}
+use Rattle.std.proofs.shelf.Tests.{cases-lt, cond-true, cond-false, both-ways, lt-ltb, le-ltb}
 use Rattle.std.specs.declared.option.Option.{Option}
 use Rattle.std.specs.declared.option.Option.the-variants.{Some, None}
 use Rattle.sheet.specs.declared.row.Relation.{Relation}
@@ -17,14 +17,13 @@ use Rattle.sheet.specs.declared.row.Test.{Test}
 use Rattle.sheet.specs.declared.row.Inputs.{Inputs}
 use Rattle.sheet.specs.declared.row.Inputs.the-variants.{Nothing, Single, Pair}
 use Rattle.sheet.specs.declared.row.Call.{Call}
-use Rattle.sheet.specs.declared.row.Send.{Send}
 use Rattle.sheet.specs.declared.row.Row.{Row}
 use Rattle.sheet.specs.declared.row.Row.the-variants.{Keep as keepRow, Call as callRow, Send as sendRow}
 use Rattle.sheet.specs.Rows.{testsOf, rowAt, inputsOf}
 use Rattle.judge.specs.Verdict.{isKeep}
-use Rattle.plant.specs.Model.{Model, Work, knows, leaves}
+use Rattle.plant.specs.Model.{Model, Work, leaves}
 use Rattle.plant.specs.Fit.{KnowsEach}
-use Rattle.schedule.specs.Rows.{Test as Asked, meets, allMeet, Row as Planned, Now as PlannedNow, Places as PlannedPlaces, wordOf as plannedWord, word1, word2, asked, given, doRow, readTo as plannedTo}
+use Rattle.schedule.specs.Rows.{meets, allMeet, Row as Planned, Now as PlannedNow, Places as PlannedPlaces, wordOf as plannedWord, word1, word2, asked, given, doRow, readTo as plannedTo}
 use Rattle.schedule.specs.Pick.{pick}
 use Rattle.schedule.specs.Machine.{said, takeIn, orFirst as orFirstOf, cellsOf, startOf}
 use Rattle.schedule.specs.Cycles as planned
@@ -58,9 +57,19 @@ tests-same (t ∷ ts) at p e = ap₂ (λ (x y : Bool). x && y) (test-same t (at 
 
 -- A call with its inputs.
 abbrev called : Call → Inputs → Planned
-called c i = record
-  { sends = false; st = c .station; work = c .work; count = inputCount i; one = firstInput i; two = secondInput i
-  ; out = c .output; listeners = λ n. false; date = c .date; dur = c .duration; tests = asTests (testsOf (c .condition)) }
+called c i = record {
+  sends = false;
+  st = c .station;
+  work = c .work;
+  count = inputCount i;
+  one = firstInput i;
+  two = secondInput i;
+  out = c .output;
+  listeners = λ n. false;
+  date = c .date;
+  dur = c .duration;
+  tests = asTests (testsOf (c .condition));
+}
 
 work-same : (c : Call) (i : Inputs) (at : ℕ → Option ℕ) (p : PlannedPlaces) → ((v : ℕ) → at v ≡ p (c .station) v) → workOf c i at ≡ asked (called c i) p
 work-same c Nothing at p e = refl
@@ -108,12 +117,16 @@ module _ (m : Model) where
     where
       row : Planned
       row = asRow (callRow c)
+
       go : (q t : Bool) → q ≡ t → NowAlike (cond q (performed m (callRow c) a) a)
-          (record { places = λ s v. cond (t && (eqb (c .station) s && eqb (c .output) v)) (Some (guarded m (b .plant) (asked row (b .places)))) (b .places s v)
-                  ; plant = cond (t && true) (leaves m (b .plant) (asked row (b .places))) (b .plant) })
-      go true true e = record
-        { places = λ s v. ap₂ (λ (o p : Option ℕ). cond (eqb (c .station) s && eqb (c .output) v) o p) (ap Some (given-same c a b (kn c refl) al)) (al .places s v)
-        ; plant = ap₂ (λ (p : S) (w : Work). m .next p w) (al .plant) (work-same c (c .inputs) (a .places (c .station)) (b .places) (al .places (c .station))) ∙ sym (cond-true _ _ _ (kn c refl)) }
+          (record {
+            places = λ s v. cond (t && (eqb (c .station) s && eqb (c .output) v)) (Some (guarded m (b .plant) (asked row (b .places)))) (b .places s v);
+            plant = cond (t && true) (leaves m (b .plant) (asked row (b .places))) (b .plant);
+          })
+      go true true e = record {
+        places = λ s v. ap₂ (λ (o p : Option ℕ). cond (eqb (c .station) s && eqb (c .output) v) o p) (ap Some (given-same c a b (kn c refl) al)) (al .places s v);
+        plant = ap₂ (λ (p : S) (w : Work). m .next p w) (al .plant) (work-same c (c .inputs) (a .places (c .station)) (b .places) (al .places (c .station))) ∙ sym (cond-true _ _ _ (kn c refl));
+      }
       go false false e = record { places = al .places; plant = al .plant }
       go true false e = absurd (both-ways true e refl)
       go false true e = absurd (both-ways false refl e)
@@ -121,12 +134,16 @@ module _ (m : Model) where
     where
       row : Planned
       row = asRow (sendRow c)
+
       go : (q t : Bool) → q ≡ t → NowAlike (cond q (performed m (sendRow c) a) a)
-          (record { places = λ s v. cond (t && (listens c s && eqb (c .variable) v)) (Some (plannedWord (b .places (c .station) (c .variable)))) (b .places s v)
-                  ; plant = cond (t && false) (leaves m (b .plant) (asked row (b .places))) (b .plant) })
-      go true true e = record
-        { places = λ s v. ap₂ (λ (o p : Option ℕ). cond (listens c s && eqb (c .variable) v) o p) (ap Some (word-same (a .places (c .station) (c .variable)) ∙ ap plannedWord (al .places (c .station) (c .variable)))) (al .places s v)
-        ; plant = al .plant }
+          (record {
+            places = λ s v. cond (t && (listens c s && eqb (c .variable) v)) (Some (plannedWord (b .places (c .station) (c .variable)))) (b .places s v);
+            plant = cond (t && false) (leaves m (b .plant) (asked row (b .places))) (b .plant);
+          })
+      go true true e = record {
+        places = λ s v. ap₂ (λ (o p : Option ℕ). cond (listens c s && eqb (c .variable) v) o p) (ap Some (word-same (a .places (c .station) (c .variable)) ∙ ap plannedWord (al .places (c .station) (c .variable)))) (al .places s v);
+        plant = al .plant;
+      }
       go false false e = record { places = al .places; plant = al .plant }
       go true false e = absurd (both-ways true e refl)
       go false true e = absurd (both-ways false refl e)
@@ -145,14 +162,16 @@ module _ (m : Model) where
   words-same : (x : Row) (a : Now S) (b : PlannedNow S) → isKeep x ≡ false → Known x → NowAlike a b → WordsAlike x a b
   unfolding Known
   words-same (keepRow k) a b nk kn al = absurd (both-ways true nk refl)
-  words-same (callRow c) a b nk kn al = record
-    { first = first-same c (c .inputs) (a .places (c .station)) (b .places) (al .places (c .station))
-    ; second = second-same c (c .inputs) (a .places (c .station)) (b .places) (al .places (c .station))
-    ; given = ap Some (given-same c a b (kn c refl) al) }
-  words-same (sendRow s) a b nk kn al = record
-    { first = ap Some (word-same (a .places (s .station) (s .variable)) ∙ ap plannedWord (al .places (s .station) (s .variable)))
-    ; second = refl
-    ; given = ap Some (word-same (a .places (s .station) (s .variable)) ∙ ap plannedWord (al .places (s .station) (s .variable))) }
+  words-same (callRow c) a b nk kn al = record {
+    first = first-same c (c .inputs) (a .places (c .station)) (b .places) (al .places (c .station));
+    second = second-same c (c .inputs) (a .places (c .station)) (b .places) (al .places (c .station));
+    given = ap Some (given-same c a b (kn c refl) al);
+  }
+  words-same (sendRow s) a b nk kn al = record {
+    first = ap Some (word-same (a .places (s .station) (s .variable)) ∙ ap plannedWord (al .places (s .station) (s .variable)));
+    second = refl;
+    given = ap Some (word-same (a .places (s .station) (s .variable)) ∙ ap plannedWord (al .places (s .station) (s .variable)));
+  }
 
   module _ (h-cycle : ℕ) (rows : List Row) (ordered : Ordered h-cycle rows) (known : KnowsEach m rows) where
     abbrev r : ℕ → Planned
@@ -239,6 +258,7 @@ module _ (m : Model) where
       where
         few : nk ≤ length rows
         few = keep-few rows
+
         go : (i < nk) ⊎ (nk ≤ i) → keptCells rows p c i ≡ cellsOf (keepsOf rows) nk q d i
         go (inl l) = cond-true _ _ _ (lt-ltb i (length rows) (omega (arith, few))) ∙ keeps-same (rowAt rows i) p q (c i) (d i) (keep-front rows i l) f (g i) ∙ sym (cond-true _ _ _ (lt-ltb i nk l))
         go (inr l) = on (cases-lt i (length rows)) ∙ g i ∙ sym (cond-false _ _ _ (le-ltb i nk l))
@@ -254,9 +274,10 @@ module _ (m : Model) where
       pub plant : x .plant ≡ y .plant
 
     begins-alike : (x : Reading S) (y : planned.Reading S) → ReadingAlike x y → NowAlike (begins m rows x) (planned.begins (leaves m) (guarded m) r n (keepsOf rows) nk y)
-    begins-alike x y al = record
-      { places = given-all (keptCells rows (x .places) (x .cells)) (cellsOf (keepsOf rows) nk (y .places) (y .cells)) (cells-same (x .places) (y .places) (x .cells) (y .cells) (al .places) (al .cells))
-      ; plant = al .plant }
+    begins-alike x y al = record {
+      places = given-all (keptCells rows (x .places) (x .cells)) (cellsOf (keepsOf rows) nk (y .places) (y .cells)) (cells-same (x .places) (y .places) (x .cells) (y .cells) (al .places) (al .cells));
+      plant = al .plant;
+    }
 
     pub cycles-alike : (start : S) (q : ℕ) → ReadingAlike (afterCycles m rows start q) (planned.afterCycles (leaves m) (guarded m) r n (keepsOf rows) nk start q)
     unfolding afterCycles planned.afterCycles
@@ -265,8 +286,10 @@ module _ (m : Model) where
       where
         x : Reading S
         x = afterCycles m rows start q
+
         y : planned.Reading S
         y = planned.afterCycles (leaves m) (guarded m) r n (keepsOf rows) nk start q
+
         next : ReadingAlike x y → ReadingAlike (cycle m rows x) (planned.cycle (leaves m) (guarded m) r n (keepsOf rows) nk y)
         next al = record { places = done .places; cells = cells-same (x .places) (y .places) (x .cells) (y .cells) (al .places) (al .cells); plant = done .plant }
           where

@@ -1,16 +1,14 @@
 -- A run of an accepted sheet's programs, tick by tick and request by request.
-use mathlib.Core.Path.{_≡_, refl, sym, ap, ap₂, _∙_, subst}
-use mathlib.Core.Bool.{Bool, true, false, cond, not, _&&_}
+use mathlib.Core.Path.{_≡_, refl, sym, ap, _∙_, subst}
+use mathlib.Core.Bool.{Bool, true, false, cond}
 use mathlib.Core.Logic.{_⊎_, inl, inr}
 use mathlib.Core.List.{List, [], _∷_, map}
-use Prim.Native.Nat.{ℕ, zero, suc, _+_, _-_, _*_, _/_, _≤_, _<_, min}
+use Prim.Native.Nat.{ℕ, zero, suc, _+_, _-_, _*_, _≤_, _<_, min}
 use native.Mathlib.Omega.{arith}
-use native.Mathlib.Numerals.{add-one}
-use native.Mathlib.Nat.{zero-add, add-zero}
 use lib.Dec.{eqb, ltb}
-use lib.ListN.{length, getD, replicate}
+use lib.ListN.{length, getD}
 use Rattle.std.proofs.shelf.Lists.{getD-past, getD-replicate, length-replicate}
-use Rattle.std.proofs.shelf.Tests.{cases-lt, cases-bool, cond-true, cond-false, both-ways, lt-ltb, le-ltb}
+use Rattle.std.proofs.shelf.Tests.{cases-lt, cond-true, cond-false, both-ways, lt-ltb, le-ltb}
 use Rattle.std.specs.declared.option.Option.{Option}
 use Rattle.std.specs.declared.option.Option.the-variants.{Some, None}
 use Rattle.fault.specs.declared.refusal.Fault.{Fault}
@@ -38,7 +36,7 @@ use Rattle.schedule.proofs.Joined as joined
 use Rattle.schedule.proofs.Judged.{accepted-now}
 use Rattle.schedule.proofs.Kept.{program-ok}
 use Rattle.translate.specs.Schedules.{keepCount, rowsOf, rowTotal, keepsOf, concrete}
-use Rattle.translate.specs.Translation.{translated, programCode}
+use Rattle.translate.specs.Translation.{translated}
 use Rattle.translate.specs.Laws.{Sheet}
 use Rattle.translate.specs.Ordered.{Ordered}
 use Rattle.translate.proofs.Judging.{judged, limits, fields, ordered}
@@ -46,9 +44,8 @@ use Rattle.translate.proofs.Lawfulness.{programs-lawful, each-program}
 use Rattle.translate.proofs.Maps.{keep-few, program-maps}
 use Rattle.semantics.specs.declared.state.Request.{Request}
 use Rattle.semantics.specs.declared.state.Request.the-variants.{Tick, Rehearse, WordAt, MarkAt}
-use Rattle.semantics.specs.declared.state.State.{State}
 use Rattle.semantics.specs.Machine as real
-use Rattle.semantics.specs.Machine.{World, Outcome, limit, placeOf, newUnit, blankMark, newState, ofTheRun}
+use Rattle.semantics.specs.Machine.{World, Outcome, limit, placeOf, newUnit, blankMark, ofTheRun}
 use Rattle.semantics.specs.Requests.{Rehearsal, rehearsed, rehearsedOn, ticked, served, servedAll, atMaking}
 use Rattle.semantics.specs.Promise.{ticksIn, ticksAsked}
 use Rattle.semantics.proofs.Guarded.{guarded, guarded-lawful}
@@ -87,11 +84,12 @@ module _ (m : Model) (law : Apart m) (h : Head) (rows : List Row) (sheet : Sheet
   ord = ordered h rows (sheet .rules)
 
   pub fit : Fit (leaves m) (guarded m) (m .known) r n L (keepsOf rows) nk (h .stations)
-  fit = record
-    { stationed = λ k l. fields h rows (sheet .rules) k l .station
-    ; listening = λ k s l. fields h rows (sheet .rules) k l .listening s
-    ; elsewhere = λ k l. fields h rows (sheet .rules) k l .elsewhere
-    ; known = λ k l s. known-call m L rows ord known k l s }
+  fit = record {
+    stationed = λ k l. fields h rows (sheet .rules) k l .station;
+    listening = λ k s l. fields h rows (sheet .rules) k l .listening s;
+    elsewhere = λ k l. fields h rows (sheet .rules) k l .elsewhere;
+    known = λ k l s. known-call m L rows ord known k l s;
+  }
 
   no-keep : (x : Row) → isKeep x ≡ false → IsKeep x → ⊥
   no-keep (keepRow k) e i = both-ways true e refl
@@ -99,12 +97,13 @@ module _ (m : Model) (law : Apart m) (h : Head) (rows : List Row) (sheet : Sheet
   no-keep (sendRow k) e i = i
 
   row-fine : (k : ℕ) → k < n → RowFine m rows L k
-  row-fine k l = record
-    { call = no-keep (rowAt rows (nk + k)) (ord .after (nk + k) (omega arith) (let a = keep-few rows in omega arith))
-    ; row = omega (arith, lim .rows)
-    ; first = λ q. omega (arith, lim .first k l q, lim .fewVariables)
-    ; second = λ q. omega (arith, lim .second k l q, lim .fewVariables)
-    ; output = omega (arith, lim .output k l, lim .fewVariables) }
+  row-fine k l = record {
+    call = no-keep (rowAt rows (nk + k)) (ord .after (nk + k) (omega arith) (let a = keep-few rows in omega arith));
+    row = omega (arith, lim .rows);
+    first = λ q. omega (arith, lim .first k l q, lim .fewVariables);
+    second = λ q. omega (arith, lim .second k l q, lim .fewVariables);
+    output = omega (arith, lim .output k l, lim .fewVariables);
+  }
 
   -- The steps of each program.
   fine-from : (j len a : ℕ) (x : PlannedStep) → StepOk r nk len a x → Own r n L (keepsOf rows) nk j x → Fine m rows L j x
@@ -121,8 +120,10 @@ module _ (m : Model) (law : Apart m) (h : Head) (rows : List Row) (sheet : Sheet
     where
       p : List PlannedStep
       p = program r n L (keepsOf rows) nk j
+
       keeps : ProgramOk r nk p
       keeps = program-ok r n L (keepsOf rows) nk (h .stations) (h .variables) lim (jud .long) (jud .inside) j
+
       go : (a < length p) ⊎ (length p ≤ a) → Fine m rows L j (getD p a PlannedStep.halt)
       go (inl l) = fine-from j (length p) a (getD p a PlannedStep.halt) (keeps .steps a l) (owned r n L (keepsOf rows) nk j a)
       go (inr l) = subst (Fine m rows L j) (sym (getD-past p a PlannedStep.halt l)) tt
@@ -158,18 +159,20 @@ module _ (m : Model) (law : Apart m) (h : Head) (rows : List Row) (sheet : Sheet
 
   pub at-start : At 0 (atMaking m programs start)
   unfolding ticks
-  at-start = record
-    { bench = newBench start
-    ; there = refl
-    ; going = record { granted = refl; going = refl }
-    ; alike = record
-      { shape = record { places = length-replicate {A = Option ℕ} 512 None; cells = length-replicate {A = Option ℕ} 16 None; marks = length-replicate 128 blankMark; units = length-replicate 16 newUnit }
-      ; plant = refl
-      ; places = λ s x ls lx. getD-replicate 512 (placeOf s x) None None (omega arith)
-      ; cells = λ c l. getD-replicate 16 c None None l
-      ; marks = λ k l. getD-replicate 128 (nk + k) blankMark blankMark (row-fine k l .row)
-      ; units = λ j l. subst (λ u. UnitAlike m r n L (keepsOf rows) nk 0 j (newBench start .units j) u) (sym (getD-replicate 16 j newUnit newUnit l)) (record { timer = inl refl; address = refl; job = refl })
-      ; line = refl } }
+  at-start = record {
+    bench = newBench start;
+    there = refl;
+    going = record { granted = refl; going = refl };
+    alike = record {
+      shape = record { places = length-replicate {A = Option ℕ} 512 None; cells = length-replicate {A = Option ℕ} 16 None; marks = length-replicate 128 blankMark; units = length-replicate 16 newUnit };
+      plant = refl;
+      places = λ s x ls lx. getD-replicate 512 (placeOf s x) None None (omega arith);
+      cells = λ c l. getD-replicate 16 c None None l;
+      marks = λ k l. getD-replicate 128 (nk + k) blankMark blankMark (row-fine k l .row);
+      units = λ j l. subst (λ u. UnitAlike m r n L (keepsOf rows) nk 0 j (newBench start .units j) u) (sym (getD-replicate 16 j newUnit newUnit l)) (record { timer = inl refl; address = refl; job = refl });
+      line = refl;
+    };
+  }
 
   some-bench : (o : Option (Bench S)) (b c : Bench S) → o ≡ Some b → o ≡ Some c → b ≡ c
   some-bench o b c p q = cc
@@ -188,6 +191,7 @@ module _ (m : Model) (law : Apart m) (h : Head) (rows : List Row) (sheet : Sheet
           step : tick (leaves m) (guarded m) (m .known) r n L (keepsOf rows) nk (length programs) T (a .bench) ≡ Some c
           step = ap (λ (z : ℕ). tick (leaves m) (guarded m) (m .known) r n L (keepsOf rows) nk z T (a .bench)) count
               ∙ sym (joined.goes (leaves m) (guarded m) lawful (m .known) r n L (keepsOf rows) nk (h .stations) (h .variables) bases start lim accepted fit T (a .bench) (a .there)) ∙ e
+
           end : Reached m rows L (λ _. suc T) (suc T) c (real.tick m programs w) → (v : World S) × (real.tick m programs w ≡ Outcome.done v) × At (suc T) v
           end (v, x, y, z) = (v, x, record { bench = c; there = e; alike = y; going = z })
 
@@ -212,10 +216,11 @@ module _ (m : Model) (law : Apart m) (h : Head) (rows : List Row) (sheet : Sheet
 
   pub at-rehearse : (k T : ℕ) (w : World S) → T ≤ limit → At T w → Rehearsed T k (rehearsed m programs k w)
   unfolding rehearsed Granted
-  at-rehearse zero T w l a = record
-    { made = omega arith
-    ; ended = sym (cond-false _ _ _ (le-ltb (limit - T) 0 (omega arith)))
-    ; leads = let e : T ≡ min (T + 0) limit = omega arith in subst (λ (z : ℕ). At z w) e a }
+  at-rehearse zero T w l a = record {
+    made = omega arith;
+    ended = sym (cond-false _ _ _ (le-ltb (limit - T) 0 (omega arith)));
+    leads = let e : T ≡ min (T + 0) limit = omega arith in subst (λ (z : ℕ). At z w) e a;
+  }
   at-rehearse (suc k) T w l a = go (cases-lt T limit) (λ v lt b. at-rehearse k (suc T) v lt b)
     where
       go : (T < limit) ⊎ (limit ≤ T) → ((v : World S) → suc T ≤ limit → At (suc T) v → Rehearsed (suc T) k (rehearsed m programs k v))
@@ -226,14 +231,16 @@ module _ (m : Model) (law : Apart m) (h : Head) (rows : List Row) (sheet : Sheet
           on (v, e, b) = subst (λ (o : Outcome S). Rehearsed T (suc k) (rehearsedOn m programs o (rehearsed m programs k))) (sym e) (more (ih v lt b))
             where
               more : Rehearsed (suc T) k (rehearsed m programs k v) → Rehearsed T (suc k) (rehearsedOn m programs (Outcome.done v) (rehearsed m programs k))
-              more x = record
-                { made = let e = x .made in omega arith
-                ; ended = x .ended ∙ ap (λ (t : Bool). cond t (Some (ofTheRun LimitReached)) None) (same-test (limit - suc T) k (limit - T) (suc k) (λ q. omega arith) (λ q. omega arith))
-                ; leads = let q : min (suc T + k) limit ≡ min (T + suc k) limit = omega arith in subst (λ (z : ℕ). At z (rehearsed m programs k v .world)) q (x .leads) }
-      go (inr ge) ih = subst (λ (o : Outcome S). Rehearsed T (suc k) (rehearsedOn m programs o (rehearsed m programs k))) (sym (at-limit T w ge a)) (record
-        { made = omega arith
-        ; ended = sym (cond-true _ _ _ (lt-ltb (limit - T) (suc k) (omega arith)))
-        ; leads = let q : T ≡ min (T + suc k) limit = omega arith in subst (λ (z : ℕ). At z w) q a })
+              more x = record {
+                made = let e = x .made in omega arith;
+                ended = x .ended ∙ ap (λ (t : Bool). cond t (Some (ofTheRun LimitReached)) None) (same-test (limit - suc T) k (limit - T) (suc k) (λ q. omega arith) (λ q. omega arith));
+                leads = let q : min (suc T + k) limit ≡ min (T + suc k) limit = omega arith in subst (λ (z : ℕ). At z (rehearsed m programs k v .world)) q (x .leads);
+              }
+      go (inr ge) ih = subst (λ (o : Outcome S). Rehearsed T (suc k) (rehearsedOn m programs o (rehearsed m programs k))) (sym (at-limit T w ge a)) (record {
+        made = omega arith;
+        ended = sym (cond-true _ _ _ (lt-ltb (limit - T) (suc k) (omega arith)));
+        leads = let q : T ≡ min (T + suc k) limit = omega arith in subst (λ (z : ℕ). At z w) q a;
+      })
 
   -- One request, and a list of them.
   at-request : (x : Request) (T : ℕ) (w : World S) → T ≤ limit → At T w → At (min (T + ticksIn x) limit) (served m programs x w .world)

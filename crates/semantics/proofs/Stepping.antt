@@ -2,17 +2,15 @@
 use mathlib.Core.Path.{_≡_, refl, sym, ap, ap₂, _∙_, subst}
 use mathlib.Core.Bool.{Bool, true, false, cond, not, _&&_, _||_}
 use mathlib.Core.Logic.{_⊎_, inl, inr}
-use mathlib.Core.List.{List, [], _∷_, map}
-use Prim.Native.Nat.{ℕ, zero, suc, _+_, _*_, _/_, _%_, _≤_, _<_}
+use mathlib.Core.List.{List}
+use Prim.Native.Nat.{ℕ, zero, suc, _+_, _*_, _/_, _%_, _<_}
 use native.Mathlib.Omega.{arith}
 use native.Mathlib.Numerals.{add-one}
 use lib.Dec.{eqb, ltb}
-use lib.ListN.{length, getD}
-use Rattle.std.proofs.shelf.Lists.{getD-map, getD-past, length-map}
-use Rattle.std.proofs.shelf.Tests.{cases-eq, cases-lt, cases-bool, eq-eqb, ne-eqb, eqb-true, cond-true, cond-false, and-parts, not-from-true, or-cases, both-ways, not-true, eqb-false, cases-order}
+use lib.ListN.{getD}
+use Rattle.std.proofs.shelf.Tests.{cases-bool, eq-eqb, ne-eqb, eqb-true, cond-true, cond-false, and-parts, both-ways, not-true, eqb-false, cases-order}
 use Rattle.std.specs.declared.option.Option.{Option}
 use Rattle.std.specs.declared.option.Option.the-variants.{Some, None}
-use Rattle.sheet.specs.declared.row.Relation.{Relation}
 use Rattle.sheet.specs.declared.row.Inputs.{Inputs}
 use Rattle.sheet.specs.declared.row.Inputs.the-variants.{Nothing as noInput, Single as oneInput, Pair as twoInputs}
 use Rattle.sheet.specs.declared.row.Call.{Call}
@@ -23,17 +21,17 @@ use Rattle.sheet.specs.Rows.{rowAt, testsOf}
 use Rattle.judge.specs.Rules.{IsKeep}
 use Rattle.netcode.specs.declared.step.Step.{Step}
 use Rattle.netcode.specs.declared.step.Step.the-variants.{Halt, Send as sendStep, Receive as receiveStep}
-use Rattle.plant.specs.Model.{Model, Work, knows, leaves}
+use Rattle.plant.specs.Model.{Model, leaves}
 use Rattle.plant.specs.Replies.{asked, countOf}
 use Rattle.plant.specs.declared.works.Words.{Words}
 use Rattle.plant.specs.declared.works.Words.the-variants.{Nothing, Single, Pair}
 use Rattle.schedule.specs.Rows.{Test, meets, Row as Planned, Places, wordOf, word1, word2, asked as askedOf}
 use Rattle.schedule.specs.Program.{Step as PlannedStep, Engine, one, exec, tested, acted}
-use Rattle.schedule.specs.Machine.{Bench, Job as PlannedJob, Message as PlannedMessage, said, isNone, isLine, owner, mine, own, guard, present, answered, engine, begin}
+use Rattle.schedule.specs.Machine.{Bench, Job as PlannedJob, Message as PlannedMessage, said, isNone, isLine, owner, mine, guard, present, answered, engine, begin}
 use Rattle.translate.specs.Schedules.{keepCount, asRow, asTests, rowsOf, rowTotal, keepsOf, inputCount, firstInput, secondInput, relationFrom, concrete}
 use Rattle.translate.specs.Translation.{act}
 use Rattle.semantics.specs.declared.state.Job.{Job}
-use Rattle.semantics.specs.declared.state.Job.the-variants.{Idle, Listen}
+use Rattle.semantics.specs.declared.state.Job.the-variants.{Listen}
 use Rattle.semantics.specs.declared.state.Message.{Message}
 use Rattle.semantics.specs.declared.state.State.{State}
 use Rattle.semantics.specs.Reading.{passes}

@@ -1,15 +1,15 @@
 -- A tick does the same on a run and on its schedule's bench, where the bench does not refuse it.
 use mathlib.Core.Path.{_≡_, refl, sym, ap, ap₂, _∙_, subst}
-use mathlib.Core.Bool.{Bool, true, false, cond, not, _&&_}
+use mathlib.Core.Bool.{Bool, true, false, cond, not}
 use mathlib.Core.Logic.{_⊎_, inl, inr}
-use mathlib.Core.List.{List, [], _∷_, map}
-use Prim.Native.Nat.{ℕ, zero, suc, _+_, _*_, _/_, _%_, _≤_, _<_}
+use mathlib.Core.List.{List, [], map}
+use Prim.Native.Nat.{ℕ, zero, suc, _+_, _/_, _≤_, _<_}
 use native.Mathlib.Omega.{arith}
 use native.Mathlib.Numerals.{add-one}
 use lib.Dec.{eqb, ltb}
 use lib.ListN.{length, getD}
 use Rattle.std.proofs.shelf.Lists.{getD-map, getD-past, length-map}
-use Rattle.std.proofs.shelf.Tests.{cases-eq, cases-lt, cases-bool, eq-eqb, ne-eqb, eqb-true, cond-true, cond-false, both-ways, lt-ltb, le-ltb}
+use Rattle.std.proofs.shelf.Tests.{cases-lt, ne-eqb, eqb-true, cond-true, cond-false, both-ways, lt-ltb, le-ltb}
 use Rattle.std.specs.declared.option.Option.{Option}
 use Rattle.std.specs.declared.option.Option.the-variants.{Some, None}
 use Rattle.fault.specs.declared.refusal.Refusal.the-variants.{NoMessage}
@@ -19,16 +19,15 @@ use Rattle.netcode.specs.declared.step.Step.the-variants.{Halt}
 use Rattle.plant.specs.Model.{Model, leaves}
 use Rattle.schedule.specs.Rows.{Row as Planned}
 use Rattle.schedule.specs.Program.{Step as PlannedStep, exec}
-use Rattle.schedule.specs.Machine.{Bench, Job as PlannedJob, Message as PlannedMessage, isNone, isLine, bind, program, engine, turnAt, firstTo, store, release, heard, land, ended, settleTo, leave, tick}
+use Rattle.schedule.specs.Machine.{Bench, Job as PlannedJob, Message as PlannedMessage, isNone, isLine, bind, program, engine, turnAt, firstTo, store, release, heard, ended, settleTo, leave, tick}
 use Rattle.translate.specs.Schedules.{keepCount, rowsOf, rowTotal, keepsOf, concrete}
 use Rattle.semantics.specs.declared.state.Job.{Job}
 use Rattle.semantics.specs.declared.state.Job.the-variants.{Idle, Store, Carry, Listen}
 use Rattle.semantics.specs.declared.state.Message.{Message}
-use Rattle.semantics.specs.declared.state.State.{State}
 use Rattle.semantics.specs.Machine as real
-use Rattle.semantics.specs.Machine.{World, Outcome, andThen, unitIn, isIdle, isBusy, withTimer, withJob, withGranted, limit}
+use Rattle.semantics.specs.Machine.{World, Outcome, andThen, unitIn, isIdle, withTimer, withJob, withGranted, limit}
 use Rattle.semantics.proofs.Guarded.{guarded}
-use Rattle.semantics.proofs.Alike.{Alike, Timed, JobAlike, UnitAlike, jobOf, owns, asLine, alike-up, spend-alike, store-alike, release-alike, leave-alike, granted-alike}
+use Rattle.semantics.proofs.Alike.{Alike, Timed, JobAlike, UnitAlike, owns, asLine, alike-up, spend-alike, store-alike, release-alike, leave-alike, granted-alike}
 use Rattle.semantics.proofs.Stepping.{Going, Fine, RowFine, steps-alike}
 
 never : {A : Type 0} {B : Type 0} (x : A) → _≡_ {A = Option A} None (Some x) → B

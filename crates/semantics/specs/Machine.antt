@@ -1,8 +1,7 @@
 -- The machine: what programs do to a run and a plant, tick by tick. Programs are numbered from 0, two to a station: its
 -- work program and then its line program. The definitions take any programs.
-use mathlib.Core.Path.{_≡_}
-use mathlib.Core.Bool.{Bool, true, false, cond, not, _&&_}
-use mathlib.Core.List.{List, [], _∷_}
+use mathlib.Core.Bool.{Bool, true, false, cond, not}
+use mathlib.Core.List.{List, []}
 use Prim.Native.Nat.{ℕ, zero, suc, _+_, _*_}
 use lib.Dec.{eqb, ltb}
 use lib.ListN.{length, getD, set, replicate}
@@ -10,18 +9,16 @@ use Rattle.std.specs.declared.option.Option.{Option}
 use Rattle.std.specs.declared.option.Option.the-variants.{Some, None}
 use Rattle.fault.specs.declared.refusal.Fault.{Fault}
 use Rattle.fault.specs.declared.refusal.Refusal.{Refusal}
-use Rattle.fault.specs.declared.refusal.Refusal.the-variants.{Outside, UnknownWork, LineCarrying, NoMessage, EmptyPlace, UnitBusy, LimitReached, Stopped}
+use Rattle.fault.specs.declared.refusal.Refusal.the-variants.{UnknownWork, LineCarrying, NoMessage, EmptyPlace, UnitBusy, LimitReached, Stopped}
 use Rattle.fault.specs.declared.place.TickPlace.{TickPlace}
 use Rattle.fault.specs.declared.place.TickPlace.the-variants.{Step as atStep, Work as atWork, Run as ofRun}
-use Rattle.fault.specs.declared.place.AskedPlace.{AskedPlace}
-use Rattle.fault.specs.declared.place.AskedPlace.the-variants.{Word as askedWord, Mark as askedMark}
 use Rattle.sheet.specs.declared.row.Relation.{Relation}
 use Rattle.sheet.specs.declared.row.Inputs.{Inputs}
 use Rattle.sheet.specs.declared.row.Inputs.the-variants.{Nothing as noInput, Single as oneInput, Pair as twoInputs}
 use Rattle.netcode.specs.declared.step.Step.{Step}
 use Rattle.netcode.specs.declared.step.Step.the-variants.{Test, Future, Halt, Call, Send, Receive, Keep, Clear, Give}
 use Rattle.netcode.specs.Layouts.{stationOf}
-use Rattle.plant.specs.Model.{Model, Work}
+use Rattle.plant.specs.Model.{Model}
 use Rattle.plant.specs.Replies.{asked, countOf}
 use Rattle.plant.specs.declared.works.Words.{Words}
 use Rattle.plant.specs.declared.works.Words.the-variants.{Nothing, Single, Pair}

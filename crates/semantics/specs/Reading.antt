@@ -1,5 +1,4 @@
 -- The untimed reading: what a sheet means to people. Rows are numbered from the top, from 0, and so are cycles.
-use mathlib.Core.Path.{_≡_}
 use mathlib.Core.Bool.{Bool, true, false, cond, not, _&&_}
 use mathlib.Core.List.{List, [], _∷_}
 use Prim.Native.Nat.{ℕ, zero, suc, _/_, _%_, _^_}
@@ -10,7 +9,6 @@ use Rattle.std.specs.declared.option.Option.the-variants.{Some, None}
 use Rattle.sheet.specs.declared.row.Relation.{Relation}
 use Rattle.sheet.specs.declared.row.Relation.the-variants.{Equal, Unequal}
 use Rattle.sheet.specs.declared.row.Test.{Test}
-use Rattle.sheet.specs.declared.row.Condition.{Condition}
 use Rattle.sheet.specs.declared.row.Inputs.{Inputs}
 use Rattle.sheet.specs.declared.row.Inputs.the-variants.{Nothing, Single, Pair}
 use Rattle.sheet.specs.declared.row.Call.{Call}

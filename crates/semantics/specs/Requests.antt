@@ -1,6 +1,6 @@
 -- What can be asked of a run, one request after another, and what it replies.
-use mathlib.Core.Bool.{Bool, true, false, cond, _&&_}
-use mathlib.Core.List.{List, [], _∷_, _++_}
+use mathlib.Core.Bool.{cond, _&&_}
+use mathlib.Core.List.{List, [], _∷_}
 use Prim.Native.Nat.{ℕ, zero, suc, _+_}
 use lib.Dec.{ltb}
 use lib.ListN.{length}
@@ -9,7 +9,6 @@ use Rattle.std.specs.declared.option.Option.the-variants.{Some, None}
 use Rattle.fault.specs.declared.refusal.Fault.{Fault}
 use Rattle.fault.specs.declared.refusal.Refusal.the-variants.{Outside}
 use Rattle.fault.specs.declared.place.TickPlace.{TickPlace}
-use Rattle.fault.specs.declared.place.AskedPlace.{AskedPlace}
 use Rattle.fault.specs.declared.place.AskedPlace.the-variants.{Word as askedWord, Mark as askedMark}
 use Rattle.netcode.specs.declared.step.Step.{Step}
 use Rattle.netcode.specs.Layouts.{stationOf}

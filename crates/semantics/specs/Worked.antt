@@ -1,10 +1,7 @@
 -- Worked cases, computed from the definitions.
 use mathlib.Core.Path.{_≡_}
-use mathlib.Core.Bool.{true}
-use mathlib.Core.List.{List, [], _∷_, map}
+use mathlib.Core.List.{List, [], _∷_}
 use Prim.Native.Nat.{ℕ}
-use lib.ListN.{length}
-use Rattle.std.specs.declared.option.Option.{Option}
 use Rattle.std.specs.declared.option.Option.the-variants.{Some, None}
 use Rattle.std.specs.declared.result.Result.the-variants.{Ok}
 use Rattle.sheet.specs.declared.row.Head.{Head}
@@ -21,7 +18,6 @@ use Rattle.plant.specs.Fit.{fitFrom}
 use Rattle.plant.specs.Script.{script, scriptRead}
 use Rattle.translate.specs.Translation.{translated}
 use Rattle.translate.specs.Worked.{Worked-programs}
-use Rattle.semantics.specs.declared.state.Mark.{Mark}
 use Rattle.semantics.specs.declared.state.State.{State}
 use Rattle.semantics.specs.Machine.{markIn}
 use Rattle.semantics.specs.Reading.{words}

@@ -1,7 +1,9 @@
+mod laws;
 mod promise;
 mod state;
 mod worked;
 
+pub use laws::laws_stand;
 pub use promise::run_promise_stands;
 pub use state::Job;
 pub use state::Mark;
