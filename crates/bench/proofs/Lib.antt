@@ -1,0 +1,6 @@
+pub mod Kept
+pub mod Loops
+pub mod Lasting
+pub mod Facts
+pub mod Rehearsals
+pub mod Lists
