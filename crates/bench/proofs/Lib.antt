@@ -4,3 +4,4 @@ pub mod Lasting
 pub mod Facts
 pub mod Rehearsals
 pub mod Lists
+pub mod Still

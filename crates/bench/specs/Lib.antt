@@ -1,3 +1,4 @@
+pub mod Quiet
 pub mod Shown
 pub mod Runs
 pub mod Replies

@@ -5,6 +5,7 @@ mod machine;
 mod making;
 mod perform;
 mod requests;
+mod rests;
 mod run;
 mod steps;
 mod ticks;

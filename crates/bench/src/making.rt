@@ -20,7 +20,8 @@ use semantics::UnitState;
 
 // At making all places and cells are empty, and every unit is due at address 0.
 fn new_machine() -> Machine
-    ensures { λ r. ⌜ r .state ≡ newState ⌝ }
+    ensures state { λ r. ⌜ r .state ≡ newState ⌝ }
+    ensures quiet { λ r. ⌜ r .quiet ≡ 0 ⌝ }
 {
     Machine {
         state: State {
@@ -42,6 +43,7 @@ fn new_machine() -> Machine
             granted: 0,
             stopped: false,
         },
+        quiet: 0,
     }
 }
 

@@ -1,12 +1,13 @@
 ghost use mathlib.Core.Path.{_≡_};
-ghost use mathlib.Core.Bool.{false, cond};
-ghost use Prim.Native.Nat.{ℕ, _≤_, _+_, _*_};
+ghost use mathlib.Core.Bool.{true, false, cond};
+ghost use Prim.Native.Nat.{ℕ, _≤_, _<_, _+_, _*_};
 ghost use lib.ListN.{length};
 ghost use Rattle.std.specs.Of.Vec.{vec-items};
 ghost use Rattle.std.specs.Options.{isSome};
 ghost use Rattle.netcode.specs.Layouts.{programsOf};
 ghost use Rattle.netcode.specs.Rules.{firstBroken};
-ghost use Rattle.semantics.specs.Machine.{limit, markIn};
+ghost use Rattle.semantics.specs.Machine.{limit, markIn, unitIn};
+ghost use Rattle.bench.specs.Quiet.{quietUnit, quietLine};
 use crate::machine::Machine;
 use netcode::Layout;
 use netcode::Step;
@@ -23,4 +24,6 @@ pub struct Run {
     ghost units: { length (machine .state .units) ≡ 16 },
     ghost few: { machine .state .granted ≤ limit },
     ghost counted: { (row : ℕ) → markIn (machine .state) row .count ≤ 16 * machine .state .granted + cond (machine .state .stopped) 16 0 },
+    ghost calm: { (program : ℕ) → program < 16 → quietUnit (machine .quiet) (unitIn (machine .state) program) ≡ true },
+    ghost line: { quietLine (machine .quiet) (machine .state .line) ≡ true },
 }

@@ -5,6 +5,7 @@ ghost use lib.ListN.{length};
 ghost use Rattle.netcode.specs.Layouts.{programCount, programsOf};
 ghost use Rattle.netcode.specs.Laws.{Lawful-before};
 ghost use Rattle.semantics.specs.Machine.{limit, ofTheRun, parts, tick};
+ghost use Rattle.bench.specs.Quiet.{Quiet};
 ghost use Rattle.bench.specs.Shown.{world, outcome, Ready, Lasts};
 use crate::machine::Machine;
 use fault::Fault;
@@ -53,7 +54,7 @@ impl Machine {
         Ok(())
     }
 
-    // A tick tries 19, 18, then the rest. A refused one is not counted, and stops the run.
+    // A tick tries 19, 18, then the rest. Where all rest, only the clock moves. A refused one is not counted, and stops the run.
     pub(crate) fn tick<P: Plant>(
         &mut self,
         layout: &Layout,
@@ -63,7 +64,9 @@ impl Machine {
         requires lawful { ⌜ Lawful-before (programsOf (now layout) (now steps)) (programCount (now layout .stations)) ⌝ }
         requires shape { ⌜ length (now layout .lengths) ≡ 16 ⌝ }
         requires lasts { ⌜ Lasts (now self .state) ⌝ }
-        ensures { λ r. ⌜ outcome r (world (now (self .exit) .state) (meaning (now (plant .exit)))) ≡ tick model (programsOf (now (layout .entry)) (now (steps .entry))) (world (now (self .entry) .state) (meaning (now (plant .entry)))) ⌝ }
+        requires quiet { ⌜ Quiet (now self .quiet) (now self .state) ⌝ }
+        ensures quiet { λ _. ⌜ Quiet (now (self .exit) .quiet) (now (self .exit) .state) ⌝ }
+        ensures outcome { λ r. ⌜ outcome r (world (now (self .exit) .state) (meaning (now (plant .exit)))) ≡ tick model (programsOf (now (layout .entry)) (now (steps .entry))) (world (now (self .entry) .state) (meaning (now (plant .entry)))) ⌝ }
     {
         if self.state.stopped {
             return Err(of_the_run(Refusal::Stopped));
@@ -72,13 +75,19 @@ impl Machine {
             return Err(of_the_run(Refusal::LimitReached));
         }
         let granted = self.state.granted;
+        if granted + 1 < self.quiet {
+            self.state.granted = granted + 1;
+            return Ok(());
+        }
         match self.parts(layout, steps, plant) {
             Err(fault) => {
                 self.state.stopped = true;
+                self.quiet = 0;
                 Err(fault)
             }
             Ok(()) => {
                 self.state.granted = granted + 1;
+                self.quiet = self.rests();
                 Ok(())
             }
         }

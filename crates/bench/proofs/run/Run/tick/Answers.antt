@@ -16,6 +16,7 @@ tick-requires g c κs =
       lawful = subst (λ (xs : List Step). Lawful-before (programsOf (run .layout) xs) (programCount (run .layout .stations))) (sym (c .as-slice .ensures .value)) (programs-lawful (run .layout) (vec-items (run .steps)) (run .lawful) (run .shape));
       shape = run .shape;
       lasts = run-lasts run;
+      quiet = record { units = run .calm; line = run .line };
     }
 
 pub ghost-self : need.ghost-self
@@ -23,5 +24,5 @@ ghost-self g c =
     let run = c .args .self .now in
     let k : Lasts (c .tick .last .self .state) =
     lasts-after (g .P·Plant .model) (programsOf (run .layout) (c .as-slice .result .now)) (world (run .machine .state) (g .P·Plant .meaning (c .args .plant .now)))
-    (world (c .tick .last .self .state) (g .P·Plant .meaning (c .tick .last .plant))) (c .tick .result) (programs-few (run .layout) (c .as-slice .result .now) (run .shape)) (run-lasts run) (c .tick .ensures) in
-    (run .lawful, (run .shape, (k .units, (k .few, (k .counted, tt)))))
+    (world (c .tick .last .self .state) (g .P·Plant .meaning (c .tick .last .plant))) (c .tick .result) (programs-few (run .layout) (c .as-slice .result .now) (run .shape)) (run-lasts run) (c .tick .ensures .outcome) in
+    (run .lawful, (run .shape, (k .units, (k .few, (k .counted, (c .tick .ensures .quiet .units, (c .tick .ensures .quiet .line, tt)))))))
