@@ -1,0 +1,3 @@
+// Examples of running an accepted sheet.
+#[cfg(test)]
+mod tests;
