@@ -74,7 +74,7 @@ fn sparse_row(n: u32) -> Row {
     if n < 64 {
         call(n % 8, n, 1000 * (n / 8))
     } else {
-        send(0, 8000 + 800 * (n - 64), Condition::Always)
+        send(0, 8000 + 800 * (n % 64), Condition::Always)
     }
 }
 
