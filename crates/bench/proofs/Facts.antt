@@ -1,5 +1,5 @@
 -- What a run's own facts say.
-use Rattle.std.proofs.Common.{◌≡◌, ℕ, zero, suc, ◌+◌, ◌*◌, ◌/◌, ◌<◌, ◌≤◌, min, Bool, true, false, cond, ◌&&◌, List, [], ◌∷◌, length, get_or, is_some, Some, None, vec_items, Option, sym, refl, ap, ◌∙◌, subst, arith}
+use Rattle.std.proofs.Common.{◌≡◌, ◌≤◌, min, Bool, true, false, List, length, is_some, Some, None, Option, subst, arith}
 use Rattle.std.proofs.lemmas.Bool.{true≢false}
 use Rattle.fault.specs.declared.refusal.Fault.{Fault}
 use Rattle.fault.specs.declared.place.StepPlace.{StepPlace}
@@ -7,7 +7,7 @@ use Rattle.netcode.specs.declared.step.Step.{Step}
 use Rattle.netcode.specs.declared.step.Layout.{Layout}
 use Rattle.netcode.specs.Layouts.{station_of, program_count, programs_of}
 use Rattle.netcode.specs.Rules.{first_broken}
-use Rattle.netcode.specs.Laws.{Lawful, LawfulBefore, Verdict}
+use Rattle.netcode.specs.Laws.{LawfulBefore, Verdict}
 use Rattle.netcode.proofs.Verdicts.{judged-programs}
 use Rattle.bench.specs.Shown.{Lasts}
 use Rattle.bench.specs.declared.run.Run.{Run}

@@ -1,13 +1,11 @@
 -- What steps keep: the clock, how many units there are, and the room in marks.
-use Rattle.std.proofs.Common.{◌≡◌, ℕ, zero, suc, ◌+◌, ◌-◌, ◌*◌, ◌/◌, ◌<◌, ◌≤◌, Bool, true, false, cond, not, eqb, ◌⊎◌, List, [], ◌∷◌, length, get_or, set, Some, None, Option, sym, refl, ap, ◌∙◌, subst, inl, inr, add-one, arith, length-set, get_or-set_other, get_or-set_same}
-use Rattle.fault.specs.declared.refusal.Fault.{Fault}
+use Rattle.std.proofs.Common.{◌≡◌, ℕ, zero, suc, ◌+◌, ◌*◌, ◌<◌, ◌≤◌, Bool, true, false, cond, not, List, [], ◌∷◌, length, get_or, set, Some, None, Option, sym, refl, ap, ◌∙◌, subst, add-one, arith, length-set, get_or-set_same}
 use Rattle.fault.specs.declared.refusal.Refusal.TheVariants.{UnitBusy}
-use Rattle.fault.specs.declared.place.TickPlace.{TickPlace}
 use Rattle.sheet.specs.declared.row.Relation.{Relation}
 use Rattle.netcode.specs.declared.step.Step.{Step}
 use Rattle.netcode.specs.declared.step.Step.TheVariants.{Test, Future, Halt, Call, Send, Receive, Keep, Clear, Give}
 use Rattle.netcode.specs.Layouts.{station_of}
-use Rattle.netcode.specs.Laws.{Within, Lawful}
+use Rattle.netcode.specs.Laws.{Within}
 use Rattle.plant.specs.Model.{Model}
 use Rattle.plant.specs.declared.works.Words.{Words}
 use Rattle.plant.specs.Replies.{count_of}
@@ -15,10 +13,10 @@ use Rattle.semantics.specs.Reading.{passes}
 use Rattle.semantics.specs.declared.state.State.{State}
 use Rattle.semantics.specs.declared.state.Mark.{Mark}
 use Rattle.semantics.specs.declared.state.Job.{Job}
-use Rattle.semantics.specs.declared.state.Job.TheVariants.{Idle, Store, Carry, Listen}
+use Rattle.semantics.specs.declared.state.Job.TheVariants.{Carry, Listen}
 use Rattle.semantics.specs.declared.state.UnitState.{UnitState}
 use Rattle.semantics.specs.declared.state.Message.{Message}
-use Rattle.semantics.specs.Machine.{World, Stepped, Outcome, at, limit, fault_at, unknown_at, blank_mark, new_unit, mark_in, unit_in, word_in, is_idle, is_busy, with_job, with_timer, with_unit, marked, input_words, tested, called, answered, sent, on_line, carried, listening, kept_from, performed, onward, steps, due_at, turn, and_then, first_part}
+use Rattle.semantics.specs.Machine.{World, Stepped, Outcome, at, fault_at, unknown_at, blank_mark, mark_in, unit_in, word_in, is_idle, is_busy, with_job, with_timer, with_unit, marked, input_words, tested, called, answered, sent, on_line, listening, kept_from, performed, onward, steps, due_at, turn, and_then, first_part}
 use Rattle.semantics.specs.Machine.Stepped.{onto, halted}
 use Rattle.bench.specs.Shown.{Room, Ready, Fits}
 

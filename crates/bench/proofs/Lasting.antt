@@ -1,5 +1,5 @@
 -- What holds of every run lasts.
-use Rattle.std.proofs.Common.{◌≡◌, ℕ, zero, suc, ◌+◌, ◌-◌, ◌*◌, ◌<◌, ◌≤◌, min, Bool, true, false, cond, not, eqb, ltb, ◌⊎◌, List, [], ◌∷◌, length, get_or, take, drop, replicate, Some, None, Ok, Err, Option, Result, sym, refl, ap, ◌∙◌, subst, inl, inr, arith, length-set}
+use Rattle.std.proofs.Common.{◌≡◌, ℕ, zero, suc, ◌+◌, ◌*◌, ◌<◌, ◌≤◌, Bool, true, false, cond, not, eqb, ltb, List, [], ◌∷◌, length, get_or, take, drop, replicate, Some, None, Ok, Err, Option, Result, sym, refl, ap, ◌∙◌, subst, inl, inr, arith, length-set}
 use lib.ListN.{length-replicate}
 use Rattle.std.proofs.lemmas.List.{length-take, get_or_past}
 use Rattle.std.proofs.lemmas.Bool.{ltb-true, cases_lt}
@@ -16,7 +16,7 @@ use Rattle.semantics.specs.declared.state.UnitState.{UnitState}
 use Rattle.semantics.specs.declared.state.Job.{Job}
 use Rattle.semantics.specs.declared.state.Job.TheVariants.{Idle, Store, Carry, Listen}
 use Rattle.semantics.specs.declared.state.Message.{Message}
-use Rattle.semantics.specs.Machine.{World, Outcome, at, new_state, limit, blank_mark, new_unit, is_idle, fault_at, of_the_run, mark_in, unit_in, is_busy, with_job, stored, heard, ended, leaves, left, and_then, first_part, second_part, parts, counted, tick}
+use Rattle.semantics.specs.Machine.{World, Outcome, at, new_state, limit, blank_mark, new_unit, is_idle, fault_at, of_the_run, mark_in, unit_in, is_busy, with_job, stored, heard, ended, leaves, and_then, first_part, second_part, parts, counted, tick}
 use Rattle.bench.specs.Shown.{Ready, Lasts, outcome}
 use Rattle.bench.proofs.Kept.{out_state, ready-first}
 

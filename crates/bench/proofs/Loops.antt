@@ -1,5 +1,5 @@
 -- One step more of a turn, one unit more of a part of a tick.
-use Rattle.std.proofs.Common.{◌≡◌, ℕ, zero, suc, ◌+◌, ◌-◌, ◌*◌, ◌<◌, ◌≤◌, Bool, true, false, cond, List, [], ◌∷◌, length, get_or, drop, Some, None, Ok, Err, Option, Result, sym, refl, ap, ◌∙◌, subst, zero-add, add-one, arith}
+use Rattle.std.proofs.Common.{◌≡◌, ℕ, zero, suc, ◌+◌, ◌-◌, ◌<◌, ◌≤◌, List, [], ◌∷◌, length, get_or, drop, Option, Result, sym, refl, ap, ◌∙◌, subst, zero-add, add-one, arith}
 use Rattle.std.proofs.lemmas.List.{get_or_default, get_or_past, get_or-drop, drop-drop}
 use Rattle.fault.specs.declared.refusal.Fault.{Fault}
 use Rattle.fault.specs.declared.place.TickPlace.{TickPlace}
@@ -7,9 +7,8 @@ use Rattle.netcode.specs.declared.step.Step.{Step}
 use Rattle.netcode.specs.declared.step.Step.TheVariants.{Halt}
 use Rattle.netcode.specs.Steps.{no_step, step_in}
 use Rattle.plant.specs.Model.{Model}
-use Rattle.semantics.specs.declared.state.State.{State}
 use Rattle.semantics.specs.Machine.{World, Stepped, Outcome, performed, onward, steps, turn, and_then, first_part, unit_in, ended, second_part, leaves, parts}
-use Rattle.bench.specs.Shown.{world, stepped_to, outcome, Ready}
+use Rattle.bench.specs.Shown.{stepped_to, outcome, Ready}
 use Rattle.bench.proofs.Kept.{state_of, kept-performed, ready-kept}
 
 module _ (m : Model) (code : List Step) (program : ℕ) where

@@ -1,5 +1,5 @@
 -- One tick more of a rehearsal, one request more of a list.
-use Rattle.std.proofs.Common.{◌≡◌, ℕ, zero, suc, ◌+◌, ◌-◌, ◌<◌, ◌≤◌, List, [], ◌∷◌, Some, None, Ok, Err, vec_items, Option, Result, sym, refl, ap, ◌∙◌, subst, add-zero, zero-add, arith}
+use Rattle.std.proofs.Common.{◌≡◌, ℕ, suc, ◌+◌, ◌-◌, ◌<◌, List, Some, None, vec_items, sym, ap, ◌∙◌, zero-add, arith}
 use native.Mathlib.Nat.{sub-zero}
 use Rattle.fault.specs.declared.refusal.Fault.{Fault}
 use Rattle.fault.specs.declared.place.TickPlace.{TickPlace}
@@ -9,7 +9,6 @@ use Rattle.netcode.specs.Layouts.{programs_of}
 use Rattle.plant.specs.Model.{Model}
 use Rattle.semantics.specs.Machine.{World, Outcome, tick}
 use Rattle.semantics.specs.Requests.{Rehearsal as Rehearsed, rehearsed, rehearsed_on, one_more}
-use Rattle.bench.specs.Shown.{world, outcome}
 use Rattle.bench.specs.Runs.{programs_in, SamePrograms}
 use Rattle.bench.specs.declared.run.Run.{Run}
 

@@ -1,17 +1,13 @@
 -- A run as the definitions see it.
-use Rattle.std.specs.Prelude.{◌≡◌, ℕ, List, length, Some, None, Ok, Err, vec_items, Option, Result}
+use Rattle.std.specs.Prelude.{◌≡◌, ℕ, List, Ok, Err, vec_items, Option, Result}
 use Rattle.fault.specs.declared.refusal.Fault.{Fault}
-use Rattle.fault.specs.declared.place.StepPlace.{StepPlace}
 use Rattle.fault.specs.declared.place.AskedPlace.{AskedPlace}
 use Rattle.netcode.specs.declared.step.Step.{Step}
-use Rattle.netcode.specs.declared.step.Layout.{Layout}
 use Rattle.netcode.specs.Layouts.{programs_of}
-use Rattle.netcode.specs.Rules.{first_broken}
 use Rattle.semantics.specs.declared.state.Mark.{Mark}
 use Rattle.semantics.specs.declared.state.Reply.{Reply}
 use Rattle.semantics.specs.declared.state.Reply.TheVariants.{Word, Mark as mark_reply, Outside as outside_reply}
-use Rattle.semantics.specs.declared.state.State.{State}
-use Rattle.semantics.specs.Machine.{World, new_state}
+use Rattle.semantics.specs.Machine.{World}
 use Rattle.bench.specs.Shown.{world}
 use Rattle.bench.specs.declared.run.Run.{Run}
 

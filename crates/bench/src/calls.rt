@@ -14,7 +14,7 @@ impl Run {
     // Makes a tick. Refused, it is not counted, keeps what its earlier steps did, and stops the run; 18 and 19 touch
     // nothing.
     pub fn tick<P: Plant>(&mut self, plant: &mut P) -> Result<(), Fault<TickPlace>>
-        ensures outcome { outcome result (world_in self.new (meaning plant.new)) ≡ tick model (programs_in self.old) (world_in self.old (meaning plant.old)) }
+        ensures outcome { outcome result (world_in self.new (P.meaning plant.new)) ≡ tick P.model (programs_in self.old) (world_in self.old (P.meaning plant.old)) }
         ensures programs { SamePrograms self.old self.new }
     {
         self.machine

@@ -30,7 +30,7 @@ impl Machine {
         address: u32,
     ) -> Result<(), Fault<TickPlace>>
         requires { program < 16 }
-        ensures { (p : model.State) → outcome result (world self.new.state p) ≡ heard model self.old.state.line clock program variable address (world self.old.state p) }
+        ensures { (p : P.model.State) → outcome result (world self.new.state p) ≡ heard P.model self.old.state.line clock program variable address (world self.old.state p) }
     {
         if let Some(message) = self.state.line {
             if message.end == clock {
@@ -44,7 +44,7 @@ impl Machine {
     // What a unit does when the clock has come to a tick: a job that ends then is done.
     fn finish<P: Plant>(&mut self, program: usize, clock: u32) -> Result<(), Fault<TickPlace>>
         requires { program < 16 }
-        ensures { (p : model.State) → outcome result (world self.new.state p) ≡ ended model (unit_in self.old.state program).job clock program (world self.old.state p) }
+        ensures { (p : P.model.State) → outcome result (world self.new.state p) ≡ ended P.model (unit_in self.old.state program).job clock program (world self.old.state p) }
     {
         match self.unit(program).job {
             Job::Idle => Ok(()),
@@ -84,7 +84,7 @@ impl Machine {
         count: usize,
     ) -> Result<(), Fault<TickPlace>>
         requires { count ≤ 16 }
-        ensures { (programs : List (List Step)) (p : model.State) → outcome result (world self.new.state p) ≡ second_part model programs clock count (world self.old.state p) }
+        ensures { (programs : List (List Step)) (p : P.model.State) → outcome result (world self.new.state p) ≡ second_part P.model programs clock count (world self.old.state p) }
     {
         for program in 0..count {
             if let Err(fault) = self.finish::<P>(program, clock) {
@@ -96,7 +96,7 @@ impl Machine {
 
     // A message that ends leaves the line.
     pub(crate) fn free_line<P: Plant>(&mut self, clock: u32)
-        ensures { self.new.state ≡ with_line self.old.state (left model self.old.state.line clock) }
+        ensures { self.new.state ≡ with_line self.old.state (left P.model self.old.state.line clock) }
     {
         if let Some(message) = self.state.line {
             if message.end == clock {

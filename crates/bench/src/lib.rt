@@ -1,3 +1,5 @@
+#![tactic(auto)]
+
 mod access;
 mod calls;
 mod ends;

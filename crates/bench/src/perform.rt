@@ -20,7 +20,7 @@ impl Machine {
         requires fields { Fits step }
         requires room { (row : ℕ) → (mark_in self.old.state row).count < 2 ^ 31 }
         requires few { self.old.state.granted ≤ limit }
-        ensures { stepped_to result (world self.new.state (meaning plant.new)) ≡ performed model step program address (world self.old.state (meaning plant.old)) }
+        ensures { stepped_to result (world self.new.state (P.meaning plant.new)) ≡ performed P.model step program address (world self.old.state (P.meaning plant.old)) }
     {
         match step {
             Step::Test {

@@ -18,7 +18,7 @@ pub struct Rehearsal {
 impl Run {
     // Makes up to n ticks: how many, and the refusal that ended it.
     fn ticks<P: Plant>(&mut self, plant: &mut P, n: u32) -> (u32, Option<Fault<TickPlace>>)
-        ensures rehearsal { ticks_made result.0 result.1 (world_in self.new (meaning plant.new)) ≡ rehearsed model (programs_in self.old) n (world_in self.old (meaning plant.old)) }
+        ensures rehearsal { ticks_made result.0 result.1 (world_in self.new (P.meaning plant.new)) ≡ rehearsed P.model (programs_in self.old) n (world_in self.old (P.meaning plant.old)) }
         ensures programs { SamePrograms self.old self.new }
     {
         for count in 0..n {
@@ -31,7 +31,7 @@ impl Run {
 
     // A rehearsal of up to n ticks. A refusal ends it.
     pub fn rehearse<P: Plant>(&mut self, plant: &mut P, n: u32) -> Rehearsal
-        ensures rehearsal { ticks_made result.count result.ended (world_in self.new (meaning plant.new)) ≡ rehearsed model (programs_in self.old) n (world_in self.old (meaning plant.old)) }
+        ensures rehearsal { ticks_made result.count result.ended (world_in self.new (P.meaning plant.new)) ≡ rehearsed P.model (programs_in self.old) n (world_in self.old (P.meaning plant.old)) }
         ensures programs { SamePrograms self.old self.new }
     {
         let (count, ended) = self.ticks(plant, n);
@@ -40,7 +40,7 @@ impl Run {
 
     // One request.
     pub fn serve<P: Plant>(&mut self, plant: &mut P, request: Request) -> Reply
-        ensures served { replied result (world_in self.new (meaning plant.new)) ≡ served model (programs_in self.old) request (world_in self.old (meaning plant.old)) }
+        ensures served { replied result (world_in self.new (P.meaning plant.new)) ≡ served P.model (programs_in self.old) request (world_in self.old (P.meaning plant.old)) }
         ensures programs { SamePrograms self.old self.new }
     {
         match request {
@@ -69,7 +69,7 @@ impl Run {
     // A list of requests, in order, with their replies at the front of a list that has room for them.
     fn serve_each<P: Plant>(&mut self, plant: &mut P, requests: &[Request], replies: &mut [Reply])
         requires { length requests.now ≤ length replies.old }
-        ensures served { answered (Ok tt) replies.new (world_in self.new (meaning plant.new)) ≡ served_into model (programs_in self.old) requests.now replies.old (world_in self.old (meaning plant.old)) }
+        ensures served { answered (Ok tt) replies.new (world_in self.new (P.meaning plant.new)) ≡ served_into P.model (programs_in self.old) requests.now replies.old (world_in self.old (P.meaning plant.old)) }
         ensures programs { SamePrograms self.old self.new }
     {
         for i in 0..requests.len() {
@@ -85,7 +85,7 @@ impl Run {
         requests: &[Request],
         replies: &mut [Reply],
     ) -> Result<(), Fault<BytesPlace>>
-        ensures served { answered result replies.new (world_in self.new (meaning plant.new)) ≡ served_into model (programs_in self.old) requests.now replies.old (world_in self.old (meaning plant.old)) }
+        ensures served { answered result replies.new (world_in self.new (P.meaning plant.new)) ≡ served_into P.model (programs_in self.old) requests.now replies.old (world_in self.old (P.meaning plant.old)) }
         ensures programs { SamePrograms self.old self.new }
     {
         if replies.len() < requests.len() {

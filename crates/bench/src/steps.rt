@@ -56,7 +56,7 @@ impl Machine {
         to: u32,
     ) -> Result<Option<u32>, Fault<TickPlace>>
         requires { (program < 16) × ((variable < 64) × (address < 2 ^ 31)) }
-        ensures { (p : model.State) → stepped_to result (world self.now.state p) ≡ tested model (word_in self.now.state (station_of program) variable) relation word to program address (world self.now.state p) }
+        ensures { (p : P.model.State) → stepped_to result (world self.now.state p) ≡ tested P.model (word_in self.now.state (station_of program) variable) relation word to program address (world self.now.state p) }
     {
         let Some(held) = self.word(program, variable) else {
             return Err(fault_at(Refusal::EmptyPlace, program, address));
@@ -123,7 +123,7 @@ impl Machine {
         requires unit { (program < 16) × (address < 2 ^ 31) }
         requires fields { (row < 128) × ((InputsWithin inputs) × (duration ≤ 65535)) }
         requires room { ((mark_in self.old.state row).count < 2 ^ 31) × (self.old.state.granted ≤ limit) }
-        ensures { stepped_to result (world self.new.state (meaning plant.new)) ≡ called model (input_words inputs (word_in self.old.state (station_of program))) row work output duration program address (world self.old.state (meaning plant.old)) }
+        ensures { stepped_to result (world self.new.state (P.meaning plant.new)) ≡ called P.model (input_words inputs (word_in self.old.state (station_of program))) row work output duration program address (world self.old.state (P.meaning plant.old)) }
     {
         let Some(words) = self.input_words(program, inputs) else {
             return Err(fault_at(Refusal::EmptyPlace, program, address));
@@ -165,7 +165,7 @@ impl Machine {
         requires unit { (program < 16) × (address < 2 ^ 31) }
         requires fields { (row < 128) × ((variable < 64) × (duration ≤ 65535)) }
         requires room { ((mark_in self.old.state row).count < 2 ^ 31) × (self.old.state.granted ≤ limit) }
-        ensures { (p : model.State) → stepped_to result (world self.new.state p) ≡ sent model (word_in self.old.state (station_of program) variable) row duration program address (world self.old.state p) }
+        ensures { (p : P.model.State) → stepped_to result (world self.new.state p) ≡ sent P.model (word_in self.old.state (station_of program) variable) row duration program address (world self.old.state p) }
     {
         let Some(word) = self.word(program, variable) else {
             return Err(fault_at(Refusal::EmptyPlace, program, address));
@@ -190,7 +190,7 @@ impl Machine {
     ) -> Result<Option<u32>, Fault<TickPlace>>
         requires unit { (program < 16) × (address < 2 ^ 31) }
         requires fields { (duration ≤ 65535) × (self.old.state.granted ≤ limit) }
-        ensures { (p : model.State) → stepped_to result (world self.new.state p) ≡ listening model variable duration program address (world self.old.state p) }
+        ensures { (p : P.model.State) → stepped_to result (world self.new.state p) ≡ listening P.model variable duration program address (world self.old.state p) }
     {
         if self.is_busy(program) {
             return Err(fault_at(Refusal::UnitBusy, program, address));
@@ -208,7 +208,7 @@ impl Machine {
     // KEEP puts a word that is held in the cell.
     pub(crate) fn keep<P: Plant>(&mut self, program: usize, variable: u32, cell: u32)
         requires { (program < 16) × ((variable < 64) × (cell < 16)) }
-        ensures { self.new.state ≡ kept_from model (word_in self.old.state (station_of program) variable) cell self.old.state }
+        ensures { self.new.state ≡ kept_from P.model (word_in self.old.state (station_of program) variable) cell self.old.state }
     {
         if let Some(word) = self.word(program, variable) {
             self.fill_cell(cell, word);

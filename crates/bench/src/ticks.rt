@@ -34,7 +34,7 @@ impl Machine {
         requires lawful { LawfulBefore (programs_of layout.now steps.now) (program_count layout.now.stations) }
         requires shape { length layout.now.lengths ≡ 16 }
         requires ready { Ready 0 self.old.state }
-        ensures { outcome result (world self.new.state (meaning plant.new)) ≡ parts model (programs_of layout.now steps.now) (world self.old.state (meaning plant.old)) }
+        ensures { outcome result (world self.new.state (P.meaning plant.new)) ≡ parts P.model (programs_of layout.now steps.now) (world self.old.state (P.meaning plant.old)) }
     {
         let clock = self.state.granted + 1;
         let count = program_count(layout.stations);
@@ -60,7 +60,7 @@ impl Machine {
         requires lasts { Lasts self.old.state }
         requires quiet { Quiet self.old.quiet self.old.state }
         ensures quiet { Quiet self.new.quiet self.new.state }
-        ensures outcome { outcome result (world self.new.state (meaning plant.new)) ≡ tick model (programs_of layout.now steps.now) (world self.old.state (meaning plant.old)) }
+        ensures outcome { outcome result (world self.new.state (P.meaning plant.new)) ≡ tick P.model (programs_of layout.now steps.now) (world self.old.state (P.meaning plant.old)) }
     {
         if self.state.stopped {
             return Err(of_the_run(Refusal::Stopped));

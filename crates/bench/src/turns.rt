@@ -22,7 +22,7 @@ impl Machine {
         requires unit { program < 16 }
         requires lawful { Lawful code.now }
         requires ready { Ready program self.old.state }
-        ensures { outcome result (world self.new.state (meaning plant.new)) ≡ steps model (length code.now + 1) code.now program start (world self.old.state (meaning plant.old)) }
+        ensures { outcome result (world self.new.state (P.meaning plant.new)) ≡ steps P.model (length code.now + 1) code.now program start (world self.old.state (P.meaning plant.old)) }
     {
         let end = code.len() as u32;
         let mut address = start;
@@ -45,7 +45,7 @@ impl Machine {
     // Whether the unit of a program is due.
     fn is_due<P: Plant>(&self, program: usize) -> bool
         requires { program < 16 }
-        ensures { result ≡ due_at model (unit_in self.now.state program).timer self.now.state.granted }
+        ensures { result ≡ due_at P.model (unit_in self.now.state program).timer self.now.state.granted }
     {
         match self.unit(program).timer {
             None => false,
@@ -64,7 +64,7 @@ impl Machine {
         requires unit { program < 16 }
         requires lawful { Lawful code.now }
         requires ready { Ready program self.old.state }
-        ensures { outcome result (world self.new.state (meaning plant.new)) ≡ turn model code.now program (world self.old.state (meaning plant.old)) }
+        ensures { outcome result (world self.new.state (P.meaning plant.new)) ≡ turn P.model code.now program (world self.old.state (P.meaning plant.old)) }
     {
         if !self.is_due::<P>(program) {
             return Ok(());
@@ -87,7 +87,7 @@ impl Machine {
     ) -> Result<(), Fault<TickPlace>>
         requires lawful { LawfulBefore (programs_of layout.now steps.now) (program_count layout.now.stations) }
         requires ready { Ready 0 self.old.state }
-        ensures { outcome result (world self.new.state (meaning plant.new)) ≡ first_part model (programs_of layout.now steps.now) (program_count layout.now.stations) (world self.old.state (meaning plant.old)) }
+        ensures { outcome result (world self.new.state (P.meaning plant.new)) ≡ first_part P.model (programs_of layout.now steps.now) (program_count layout.now.stations) (world self.old.state (P.meaning plant.old)) }
     {
         let mut rest = steps;
         for program in 0..program_count(layout.stations) {

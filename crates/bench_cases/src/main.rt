@@ -1,3 +1,5 @@
+#![tactic(auto)]
+
 // Runs the program files in the file `cases`: each is a program file, a byte for the plant (0 Reckoner, 1 Panel, 2 Script),
 // a script, and requests. A line for each: the replies, joined by `|`; or the refusal of the file or of its making.
 use bench::Run;

@@ -1,3 +1,5 @@
+#![tactic(auto)]
+
 // Examples of refusals, numbers and sheets in bytes.
 #[cfg(test)]
 mod tests;

@@ -1,3 +1,5 @@
+#![tactic(auto)]
+
 // Rehearses two cycles of the sheet in the file `table` above the words in the file `script`, and prints the mark of each
 // row; or the refusal.
 use door_print::print_rehearsal;

@@ -1,3 +1,5 @@
+#![tactic(auto)]
+
 // Prints what the door prints for the tables and scripts in the file `cases`, a line for each, its lines joined by `|`.
 use cases::next_part;
 use door_print::print_rehearsal;

@@ -1,3 +1,5 @@
+#![tactic(auto)]
+
 // What the door prints, for the programs that print it. It reads nothing: table and script are handed in as bytes.
 use bench::Run;
 use fault::{Fault, Place};

@@ -1,3 +1,5 @@
+#![tactic(auto)]
+
 mod place;
 mod refusal;
 mod scan;

@@ -1,17 +1,15 @@
-use Rattle.std.proofs.Common.{◌≡◌, ℕ, zero, suc, ◌+◌, ◌/◌, ◌%◌, ◌^◌, ◌<◌, ◌≤◌, Bool, true, false, not, ◌&&◌, ◌||◌, eqb, ltb, leb, ◌⊎◌, List, [], ◌∷◌, length, Decides, sym, refl, ap, ◌∙◌, inl, inr, arith}
-use Rattle.std.specs.List.{AllByRecursion as All}
+use Rattle.std.proofs.Common.{◌≡◌, ℕ, zero, suc, ◌+◌, ◌/◌, ◌%◌, ◌^◌, ◌<◌, not, eqb, ltb, List, [], ◌∷◌, Decides, refl, ap, arith}
+use Rattle.std.specs.List.{AllByRecursion}
 use Rattle.std.proofs.lemmas.Bool.Decides.{Decides-and, Decides-not, Decides-eqb, Decides-ltb, Decides-like}
 use Rattle.std.proofs.ByRecursion.{Decides-by_and}
 use Rattle.sheet.specs.declared.row.Head.{Head}
 use Rattle.sheet.specs.declared.row.Relation.{Relation}
 use Rattle.sheet.specs.declared.row.Relation.TheVariants.{Equal, Unequal}
 use Rattle.sheet.specs.declared.row.Test.{Test}
-use Rattle.sheet.specs.declared.row.Call.{Call}
-use Rattle.sheet.specs.declared.row.Send.{Send}
 use Rattle.sheet.specs.declared.row.Row.{Row}
 use Rattle.judge.specs.declared.need.Need.{Need}
 use Rattle.sheet.specs.declared.row.Row.TheVariants.{Keep as keep_row, Call as call_row, Send as send_row}
-use Rattle.sheet.specs.Rows.{tests_of, inputs_of, no_test, test_at}
+use Rattle.sheet.specs.Rows.{tests_of, inputs_of, no_test}
 use Rattle.judge.specs.Tests.{opposed_by, opposed, opposed_to, excluding, same_relation, alike, among, all_among, all_within, tested, none_twice}
 use Rattle.judge.specs.Verdict.{within_cycle, inputs_within, fields_within, is_keep, tested_once, two_writers, overlapping, provides, listens}
 use Rattle.judge.specs.Rules.{Any, WithinCycle, TestsWithin, FieldsWithin, IsKeep, NoneTwice, TestedOnce, OpposedWords, Opposed, Exclude, SingleWriter, NoOverlap, Among, Provides}
@@ -66,7 +64,7 @@ tests-within h ts =
     Decides-by_and (λ t. ltb t.variable h.variables) (λ t. t.variable < h.variables) (all_within h.variables)
     (λ t. Decides-ltb t.variable h.variables) refl (λ _ _. refl) ts
 
-inputs-within : (n : ℕ) (vs : List ℕ) → Decides (inputs_within n vs) (All (λ v. v < n) vs)
+inputs-within : (n : ℕ) (vs : List ℕ) → Decides (inputs_within n vs) (AllByRecursion (λ v. v < n) vs)
 inputs-within n vs = Decides-by_and (λ v. ltb v n) (λ v. v < n) (inputs_within n) (λ v. Decides-ltb v n) refl (λ _ _. refl) vs
 
 cycle-decides : (h : Head) (date duration : ℕ) → Decides (within_cycle date duration h.cycle) (WithinCycle h date duration)

@@ -1,4 +1,4 @@
-use Rattle.std.proofs.Common.{◌≡◌, ℕ, zero, suc, ◌+◌, ◌-◌, ◌<◌, ◌≤◌, Bool, true, false, Some, None, Option, refl, ap, arith}
+use Rattle.std.proofs.Common.{◌≡◌, ℕ, suc, ◌+◌, ◌-◌, ◌<◌, ◌≤◌, Bool, true, false, Some, None, arith}
 use Rattle.judge.specs.Places.{first_place}
 
 pub place_here : (p : ℕ → Bool) (n i : ℕ) → i < n → p i ≡ true → first_place p (n - i) i ≡ Some i

@@ -1,5 +1,5 @@
-use Rattle.std.proofs.Common.{◌≡◌, ℕ, ◌+◌, ◌<◌, ◌≤◌, Bool, true, false, cond, not, ltb, List, length, get_or, take, is_some, Some, None, Decides, Option, sym, refl, ap, ◌∙◌, arith}
-use Rattle.std.specs.List.{AllByRecursion as All}
+use Rattle.std.proofs.Common.{◌≡◌, ℕ, ◌<◌, ◌≤◌, Bool, true, false, cond, not, List, length, take, is_some, Some, None, Decides, Option, refl, arith}
+use Rattle.std.specs.List.{AllByRecursion}
 use Rattle.std.proofs.ByRecursion.{All-get_or}
 use Rattle.std.proofs.lemmas.Bool.{true≢false, false≢true}
 use Rattle.std.proofs.lemmas.Bool.Decides.{Decides-and, Decides-ltb}
@@ -9,16 +9,15 @@ use Rattle.judge.specs.declared.need.Need.{Need}
 use Rattle.sheet.specs.declared.row.Row.{Row}
 use Rattle.sheet.specs.declared.row.Row.TheVariants.{Keep as keep_row, Call as call_row, Send as send_row}
 use Rattle.judge.specs.declared.breach.Breach.{Breach}
-use Rattle.judge.specs.declared.breach.Breach.TheVariants.{Outside, TestedTwice, TwoWriters, Clash, Unavailable}
+use Rattle.judge.specs.declared.breach.Breach.TheVariants.{Outside, TestedTwice}
 use Rattle.fault.specs.declared.place.RowPlace.{RowPlace}
 use Rattle.fault.specs.declared.refusal.Fault.{Fault}
 use Rattle.fault.specs.Scan.{first_bad, FirstBad}
 use Rattle.fault.proofs.Scans.{first-is}
 use Rattle.sheet.specs.Rows.{row_at, no_row}
-use Rattle.judge.specs.Places.{first_place}
-use Rattle.judge.specs.Verdict.{is_keep, placed, within, tested_once, two_writers, overlapping, first_writer, first_overlap, first_unavailable, need_at, needs_of, as_unavailable, or_clash, or_writers, breach_of, fault_of, fault_here, verdict}
-use Rattle.judge.specs.Rules.{IsKeep, Placed, FieldsWithin, SingleWriter, NoOverlap, ReadsAvailable, RowRules, Rules}
-use Rattle.judge.specs.Right.{Within, TestedOnceAt, WritersTo, NoOverlapTo, Met, FirstUnmet, Broken, Names, Right, AcceptsExactly, NamesFirst}
+use Rattle.judge.specs.Verdict.{is_keep, placed, within, tested_once, two_writers, overlapping, first_writer, first_overlap, first_unavailable, need_at, needs_of, as_unavailable, or_clash, or_writers, breach_of, fault_here, verdict}
+use Rattle.judge.specs.Rules.{IsKeep, Placed, SingleWriter, NoOverlap, RowRules, Rules}
+use Rattle.judge.specs.Right.{Within, TestedOnceAt, WritersTo, NoOverlapTo, Met, FirstUnmet, Broken, Right, AcceptsExactly, NamesFirst}
 use Rattle.std.proofs.lemmas.List.{length-take-le}
 use Rattle.judge.proofs.Aboves.{above_same}
 use Rattle.judge.proofs.Logic.{always, twice-not}
@@ -90,7 +89,7 @@ module _ (h : Head) (rows : List Row) (r : ℕ) where
   after-overlap (Some u) rest w n t a k =
       ((w, n, t, omega (arith, a.1), overlap-lost u a.2, λ j l. overlap-kept j (a.3 j (omega arith) l)), λ s. overlap-lost u a.2 (s.overlaps u (omega (arith, a.1))))
 
-  unmet : (ws : List Need) (v : ℕ) → FirstUnmet rows r ws v → All (Met rows r) ws → ⊥
+  unmet : (ws : List Need) (v : ℕ) → FirstUnmet rows r ws v → AllByRecursion (Met rows r) ws → ⊥
   unmet ws v f a = (f.2 (need_at 0 0 0 Always)).1 (All-get_or (Met rows r) ws f.0 (need_at 0 0 0 Always) f.1 a)
 
   after-all : (o : Option ℕ) → Within h rows r → TestedOnceAt rows r → WritersTo rows r r → NoOverlapTo rows r r

@@ -1,5 +1,5 @@
 use Rattle.std.specs.Prelude.{◌≡◌, ℕ, ◌+◌, ◌/◌, ◌%◌, ◌^◌, ◌<◌, ◌≤◌, ◌⊎◌, List, [], ◌∷◌, length, take, ◌≢◌}
-use Rattle.std.specs.List.{AllByRecursion as All}
+use Rattle.std.specs.List.{AllByRecursion}
 use Rattle.sheet.specs.declared.row.Head.{Head}
 use Rattle.sheet.specs.declared.row.Relation.{Relation}
 use Rattle.sheet.specs.declared.row.Relation.TheVariants.{Equal, Unequal}
@@ -24,7 +24,7 @@ abbrev pub WithinCycle : Head → ℕ → ℕ → Type 0
 WithinCycle h date duration = (0 < duration) × (date + duration ≤ h.cycle)
 
 abbrev pub TestsWithin : Head → List Test → Type 0
-TestsWithin h ts = All (λ t. t.variable < h.variables) ts
+TestsWithin h ts = AllByRecursion (λ t. t.variable < h.variables) ts
 
 -- Every field of a row is within its limits. The listeners exist, are not none, and omit the sender.
 abbrev pub FieldsWithin : Head → Row → Type 0
@@ -32,7 +32,7 @@ FieldsWithin h (keep_row k) = (k.station < h.stations) × ((k.taken < h.variable
 FieldsWithin h (call_row c) =
     (c.station < h.stations)
     × ((c.work ≤ 255)
-    × (All (λ v. v < h.variables) (inputs_of c.inputs)
+    × (AllByRecursion (λ v. v < h.variables) (inputs_of c.inputs)
     × ((c.output < h.variables)
     × (WithinCycle h c.date c.duration
     × TestsWithin h (tests_of c.condition)))))
@@ -107,7 +107,7 @@ NoOverlap (send_row s) (send_row t) =
 
 -- Each of the tests `ss` is one of `ts`: the very same variable, relation and word.
 abbrev pub Among : List Test → List Test → Type 0
-Among ss ts = All (λ s. Any (λ t. s ≡ t) ts) ss
+Among ss ts = AllByRecursion (λ s. Any (λ t. s ≡ t) ts) ss
 
 -- A row provides a variable at a station to a row of that date, after the tests `ts`: a keep row of the
 -- station that gives it, a call there that writes it, or a send of it to which the station listens. A call
@@ -135,7 +135,7 @@ abbrev pub ReadsAvailable : List Row → ℕ → Row → Type 0
 ReadsAvailable rows r (keep_row k) = Unit {0}
 ReadsAvailable rows r (call_row c) =
     TestsAvailable rows r c.station c.date (tests_of c.condition)
-    × All (λ v. Available rows r c.station v c.date (tests_of c.condition)) (inputs_of c.inputs)
+    × AllByRecursion (λ v. Available rows r c.station v c.date (tests_of c.condition)) (inputs_of c.inputs)
 ReadsAvailable rows r (send_row s) =
     TestsAvailable rows r s.station s.date (tests_of s.condition)
     × (Available rows r s.station s.variable s.date (tests_of s.condition)

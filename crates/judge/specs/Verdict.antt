@@ -1,6 +1,5 @@
-use Rattle.std.specs.Prelude.{ℕ, zero, suc, ◌+◌, ◌/◌, ◌%◌, ◌^◌, Bool, true, false, cond, not, ◌&&◌, ◌||◌, List, [], ◌∷◌, ◌++◌, length, take, is_some, Some, None, Ok, Err, Option, Result, ◌==◌, nat_le, nat_lt}
+use Rattle.std.specs.Prelude.{ℕ, zero, suc, ◌+◌, ◌/◌, ◌%◌, ◌^◌, Bool, true, false, cond, not, ◌&&◌, List, [], ◌∷◌, ◌++◌, length, take, is_some, Some, None, Ok, Err, Option, Result, ◌==◌, nat_le, nat_lt}
 use Rattle.sheet.specs.declared.row.Head.{Head}
-use Rattle.sheet.specs.declared.row.Test.{Test}
 use Rattle.sheet.specs.declared.row.Condition.{Condition}
 use Rattle.sheet.specs.declared.row.Condition.TheVariants.{Always, One, Two, Three, Four}
 use Rattle.sheet.specs.declared.row.Inputs.{Inputs}

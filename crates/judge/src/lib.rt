@@ -1,3 +1,5 @@
+#![tactic(auto)]
+
 mod availability;
 mod breach;
 mod condition;

@@ -1,3 +1,5 @@
+#![tactic(auto)]
+
 // Prints the sheet in the file `table` for a person: the head, a line for each row, what was found, and the programs of
 // an accepted sheet with a line for each step.
 use fault::{Fault, Place};

@@ -1,3 +1,5 @@
+#![tactic(auto)]
+
 mod mark;
 
 pub use mark::{MarkLine, MarkText, WordText};

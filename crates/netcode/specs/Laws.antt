@@ -1,4 +1,4 @@
-use Rattle.std.specs.Prelude.{◌≡◌, ℕ, ◌+◌, ◌-◌, ◌<◌, ◌≤◌, ◌⊎◌, List, [], ◌∷◌, length, Some, None, Option, slice_index_or}
+use Rattle.std.specs.Prelude.{◌≡◌, ℕ, ◌+◌, ◌-◌, ◌<◌, ◌≤◌, ◌⊎◌, List, [], length, Some, None, Option, slice_index_or}
 use Rattle.fault.specs.declared.refusal.Fault.{Fault}
 use Rattle.fault.specs.declared.refusal.Refusal.TheVariants.{BrokenProgram}
 use Rattle.fault.specs.declared.place.StepPlace.{StepPlace}
@@ -7,7 +7,7 @@ use Rattle.sheet.specs.declared.row.Inputs.TheVariants.{Nothing, Single, Pair}
 use Rattle.netcode.specs.declared.step.Step.{Step}
 use Rattle.netcode.specs.declared.step.Step.TheVariants.{Test, Future, Halt, Call, Send, Receive, Keep, Clear, Give}
 use Rattle.netcode.specs.Steps.{step_in}
-use Rattle.netcode.specs.Layouts.{per_station, work_program, line_program, station_of, program_count}
+use Rattle.netcode.specs.Layouts.{work_program, line_program, station_of, program_count}
 use Rattle.netcode.specs.Rules.{broken_at, broken_program, first_broken}
 
 -- Ticks and durations are 1 to 65,535.

@@ -1,4 +1,4 @@
-use Rattle.std.specs.Prelude.{◌≡◌, ℕ, ◌+◌, ◌-◌, ◌<◌, ◌≤◌, Bool, true, false, cond, ◌&&◌, ◌||◌, ◌⊎◌, List, [], ◌∷◌, length, take, Some, None, Option, nat_lt}
+use Rattle.std.specs.Prelude.{ℕ, ◌+◌, Bool, true, false, cond, ◌&&◌, ◌||◌, List, [], ◌∷◌, length, take, Some, None, Option, nat_lt}
 use Rattle.fault.specs.declared.refusal.Fault.{Fault}
 use Rattle.fault.specs.declared.refusal.Refusal.TheVariants.{BrokenProgram}
 use Rattle.fault.specs.declared.place.StepPlace.{StepPlace}
@@ -7,9 +7,6 @@ use Rattle.sheet.specs.declared.row.Inputs.{Inputs}
 use Rattle.sheet.specs.declared.row.Inputs.TheVariants.{Nothing, Single, Pair}
 use Rattle.netcode.specs.declared.step.Step.{Step}
 use Rattle.netcode.specs.declared.step.Step.TheVariants.{Test, Future, Halt, Call, Send, Receive, Keep, Clear, Give}
-use Rattle.netcode.specs.declared.step.Layout.{Layout}
-use Rattle.netcode.specs.Steps.{step_in}
-use Rattle.netcode.specs.Layouts.{programs_of}
 
 -- Ticks and durations are 1 to 65,535.
 abbrev pub tick_count : ℕ → Bool

@@ -1,3 +1,5 @@
+#![tactic(auto)]
+
 mod laws;
 mod layout;
 mod rules;

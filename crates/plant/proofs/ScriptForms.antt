@@ -1,12 +1,12 @@
 -- Scripts are read back as they were written, and have one form.
-use Rattle.std.proofs.Common.{◌≡◌, ℕ, zero, suc, ◌+◌, ◌<◌, ◌≤◌, Bool, true, false, cond, ltb, ◌⊎◌, List, [], ◌∷◌, ◌++◌, length, drop, Ok, Err, Result, sym, refl, ap, ◌∙◌, subst, inl, inr, arith}
+use Rattle.std.proofs.Common.{◌≡◌, ℕ, zero, suc, ◌+◌, ◌≤◌, Bool, true, false, cond, ltb, List, [], ◌∷◌, ◌++◌, length, Ok, Err, Result, sym, refl, ap, ◌∙◌, subst, arith}
 use Rattle.std.proofs.lemmas.List.{append-nil, drop_all}
-use Rattle.std.proofs.lemmas.Bool.{le-ltb, ltb-false, cases_Bool}
+use Rattle.std.proofs.lemmas.Bool.{le-ltb, ltb-false}
 use Rattle.fault.specs.declared.refusal.Fault.{Fault}
 use Rattle.fault.specs.declared.refusal.Refusal.TheVariants.{Trailing}
 use Rattle.fault.specs.declared.place.Offset.{Offset}
-use Rattle.wire.specs.Bytes.{Bytes, spelled}
-use Rattle.wire.specs.Numbers.{number_at, after_number, and_then, fault_at}
+use Rattle.wire.specs.Bytes.{spelled}
+use Rattle.wire.specs.Numbers.{number_at, after_number, fault_at}
 use Rattle.wire.proofs.Spelled.{Reads, spelled-reads, reads-spelled}
 use Rattle.sheet.proofs.Follow.{then_by, then_to, ok_same, never}
 use Rattle.plant.specs.Script.{pair_at, after_pair, pairs_at, pairs_read}

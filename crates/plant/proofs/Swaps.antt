@@ -1,6 +1,6 @@
 -- Lists of works with the same works in the same order at each station.
 use Rattle.std.proofs.Common.{◌≡◌, ℕ, Bool, true, false, cond, eqb, ◌⊎◌, List, [], ◌∷◌, Ok, Err, Result, sym, refl, ap, ◌∙◌, ap₂, inl, inr, arith}
-use Rattle.std.proofs.lemmas.Bool.{cases_eq, eq-eqb, ne_eqb, eqb-true, cond-true, cond-false, both_ways}
+use Rattle.std.proofs.lemmas.Bool.{cases_eq, eq-eqb, ne_eqb, eqb-true, cond-true}
 use Rattle.plant.specs.Model.{Model, Apart, Work, Elsewhere, knows, leaves}
 use Rattle.plant.specs.Replies.{replied, unknown}
 use Rattle.plant.specs.Order.{works_at, left_by, replies_at, SameAtEach, Alike, OrderStands, Lawful}

@@ -1,10 +1,10 @@
 -- The law of plants holds of each model.
-use Rattle.std.specs.Prelude.{◌≡◌, ℕ, ◌<◌, Bool, true, false, cond, ◌&&◌, ◌||◌, ◌⊎◌, List, [], set, ◌==◌, ◌≢◌, nat_lt, slice_index, slice_index_or, slice_set, refl}
-use Rattle.std.proofs.Common.{sym, ap, ◌∙◌, inl, inr, ⊎_elim, arith}
+use Rattle.std.specs.Prelude.{◌≡◌, ℕ, ◌<◌, Bool, true, false, cond, ◌&&◌, ◌||◌, List, [], set, ◌==◌, ◌≢◌, nat_lt, slice_index, slice_index_or, slice_set, refl}
+use Rattle.std.proofs.Common.{sym, ap, ◌∙◌, ⊎_elim, arith}
 use Rattle.std.proofs.lemmas.List.{set_comm, get_or-set_other}
 use Rattle.std.proofs.lemmas.Bool.{and_parts, or_cases, ltb-true, eqb-true}
-use Rattle.plant.specs.Model.{Model, Apart, Work, Elsewhere}
-use Rattle.plant.specs.Reckoner.{reckoner, reckoner_work}
+use Rattle.plant.specs.Model.{Apart, Work, Elsewhere}
+use Rattle.plant.specs.Reckoner.{reckoner}
 use Rattle.plant.specs.Panel.{panel}
 use Rattle.plant.specs.Script.{script, next_word, later_words, used}
 

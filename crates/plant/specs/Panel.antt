@@ -1,8 +1,8 @@
 -- The panel has a register for each of eight stations, 0 at first. Its works, at stations 0 to 7:
 --   10  reads the station's register (no input)
 --   11  puts its input into the station's register and answers the old word (1 input)
-use Rattle.std.specs.Prelude.{ℕ, Bool, cond, ◌&&◌, ◌||◌, List, replicate, ◌==◌, nat_lt, slice_index, slice_set}
-use Rattle.plant.specs.Model.{Model, Work}
+use Rattle.std.specs.Prelude.{ℕ, cond, ◌&&◌, ◌||◌, List, replicate, ◌==◌, nat_lt, slice_index, slice_set}
+use Rattle.plant.specs.Model.{Model}
 
 -- The state is the list of the registers.
 abbrev pub panel : Model

@@ -3,7 +3,7 @@
 --   2  adds modulo 4,294,967,296 (2)   5  gives 1 (0)
 --   3  gives the lesser (2)
 use Rattle.std.specs.Prelude.{ℕ, ◌+◌, ◌%◌, ◌^◌, min, Bool, cond, ◌&&◌, ◌||◌, ◌==◌, nat_lt}
-use Rattle.plant.specs.Model.{Model, Work}
+use Rattle.plant.specs.Model.{Model}
 
 -- Whether a work has so many inputs.
 abbrev pub reckoner_work : ℕ → ℕ → Bool

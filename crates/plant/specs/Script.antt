@@ -2,12 +2,12 @@
 --   20  answers the station's next unused word and uses it up, or answers 0 where none is left (no input)
 --    1  copies its input (1 input)
 -- A pair whose station is above 7 is never used.
-use Rattle.std.specs.Prelude.{ℕ, zero, suc, ◌+◌, Bool, cond, ◌&&◌, ◌||◌, List, [], ◌∷◌, length, Some, None, Ok, Err, Option, Result, ◌==◌, nat_lt, slice_index_or, slice_set}
+use Rattle.std.specs.Prelude.{ℕ, zero, suc, cond, ◌&&◌, ◌||◌, List, [], ◌∷◌, length, Some, None, Ok, Err, Option, Result, ◌==◌, nat_lt, slice_index_or, slice_set}
 use Rattle.fault.specs.declared.refusal.Fault.{Fault}
 use Rattle.fault.specs.declared.refusal.Refusal.TheVariants.{Trailing}
 use Rattle.fault.specs.declared.place.Offset.{Offset}
 use Rattle.wire.specs.Numbers.{number_at, after_number, fault_at, and_then}
-use Rattle.plant.specs.Model.{Model, Work}
+use Rattle.plant.specs.Model.{Model}
 use Rattle.plant.specs.declared.script.Cursor.{Cursor}
 
 -- The next of some words, or 0, and the words after it.

@@ -1,6 +1,6 @@
 -- The byte form of a script.
 use Rattle.std.specs.Prelude.{◌≡◌, ℕ, ◌^◌, ◌<◌, List, [], ◌∷◌, length, Ok}
-use Rattle.std.specs.List.{AllByRecursion as All}
+use Rattle.std.specs.List.{AllByRecursion}
 use Rattle.wire.specs.Bytes.{Bytes, spelled}
 use Rattle.plant.specs.Script.{pairs_read}
 
@@ -14,7 +14,7 @@ script_numbers ps = length ps ∷ pair_numbers ps
 
 -- A script of numbers of 32 bits is read back as it was written,
 abbrev pub ScriptBack : Type 0
-ScriptBack = (ps : List (ℕ × ℕ)) → All (λ n. n < 2 ^ 32) (script_numbers ps) → pairs_read (spelled (script_numbers ps)) ≡ Ok ps
+ScriptBack = (ps : List (ℕ × ℕ)) → AllByRecursion (λ n. n < 2 ^ 32) (script_numbers ps) → pairs_read (spelled (script_numbers ps)) ≡ Ok ps
 
 -- and bytes that are read as a script are what it is written as.
 abbrev pub ScriptOneForm : Type 0

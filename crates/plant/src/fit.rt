@@ -19,7 +19,7 @@ fn input_count(inputs: Inputs) -> u32
 
 // Whether the plant knows the work of a row, if it is a call.
 fn fit_row<P: Plant>(plant: &P, row: Row, at: usize) -> Result<(), Fault<FitPlace>>
-    ensures { result ≡ row_fit model at row }
+    ensures { result ≡ row_fit P.model at row }
 {
     match row {
         Row::Call(call) => {
@@ -42,8 +42,8 @@ fn fit_row<P: Plant>(plant: &P, row: Row, at: usize) -> Result<(), Fault<FitPlac
 
 // Whether the plant knows every work that the rows name. The first that it does not know is refused.
 pub fn fit_rows<P: Plant>(plant: &P, rows: &[Row]) -> Result<(), Fault<FitPlace>>
-    ensures value { result ≡ fit_from model 0 rows.now }
-    ensures means { Fit model rows.now result }
+    ensures value { result ≡ fit_from P.model 0 rows.now }
+    ensures means { Fit P.model rows.now result }
 {
     for i in 0..rows.len() {
         fit_row(plant, rows[i], i)?;

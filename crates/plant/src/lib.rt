@@ -1,3 +1,5 @@
+#![tactic(auto)]
+
 mod fit;
 mod order;
 mod panel;

@@ -8,8 +8,8 @@ use crate::works::Plant;
 // at each station leave the same state, and each station is replied to alike; and a work may be begun before
 // others of other stations that stand above it.
 pub fn order_stands<P: Plant>(_plant: &P) -> u8
-    ensures lists { OrderStands model }
-    ensures begun { AnyOrder (leaves model) (replied model) }
+    ensures lists { OrderStands P.model }
+    ensures begun { AnyOrder (leaves P.model) (replied P.model) }
 {
     0
 }

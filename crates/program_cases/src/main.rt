@@ -1,3 +1,5 @@
+#![tactic(auto)]
+
 // Translates the sheets in the file `cases`, each of which is followed by the program file expected of it. A line for
 // each: `same`, or `differs`.
 use cases::next_part;

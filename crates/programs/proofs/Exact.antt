@@ -1,12 +1,12 @@
 -- Bytes read as a program file exactly when they are its byte form.
-use Rattle.std.proofs.Common.{◌≡◌, ℕ, zero, suc, ◌+◌, ◌<◌, ◌≤◌, Bool, true, false, cond, ◌&&◌, ltb, List, [], ◌∷◌, ◌++◌, length, drop, Ok, Err, Result, sym, refl, ap, ◌∙◌, subst, append-nil, arith, length-append}
+use Rattle.std.proofs.Common.{◌≡◌, ℕ, zero, suc, ◌+◌, ◌≤◌, true, ltb, List, [], ◌∷◌, ◌++◌, length, Ok, Result, sym, refl, ap, ◌∙◌, subst, append-nil, arith, length-append}
 use Rattle.std.specs.List.{flat_map}
 use Rattle.std.proofs.lemmas.List.{drop_all}
 use Rattle.std.proofs.lemmas.Bool.{lt-ltb, le-ltb, ltb-true, and_parts}
 use Rattle.fault.specs.declared.refusal.Fault.{Fault}
 use Rattle.fault.specs.declared.place.Offset.{Offset}
 use Rattle.fault.specs.declared.place.BytesPlace.{BytesPlace}
-use Rattle.wire.specs.Numbers.{number_at, after_number, and_then}
+use Rattle.wire.specs.Numbers.{number_at, after_number}
 use Rattle.wire.specs.Bytes.{Bytes}
 use Rattle.wire.proofs.Spelled.{Reads, reads_more, reads-parts, reads-spelled, spelled-reads}
 use Rattle.sheet.specs.Parts.{one_number}

@@ -1,6 +1,6 @@
 -- What was written is read back.
-use Rattle.std.proofs.Common.{◌≡◌, ℕ, zero, suc, ◌+◌, ◌^◌, ◌<◌, ◌≤◌, Bool, true, false, cond, ◌&&◌, ltb, List, [], ◌∷◌, ◌++◌, length, take, drop, Ok, Err, Result, sym, refl, ap, ◌∙◌, subst, arith, lit<}
-use Rattle.std.specs.List.{flat_map, AllByRecursion as All}
+use Rattle.std.proofs.Common.{◌≡◌, ℕ, zero, suc, ◌^◌, ◌<◌, true, ltb, List, [], ◌∷◌, ◌++◌, length, take, drop, refl, ap, ◌∙◌, arith, lit<}
+use Rattle.std.specs.List.{flat_map, AllByRecursion}
 use Rattle.std.proofs.lemmas.List.{length-take, take_at}
 use Rattle.std.proofs.lemmas.Bool.{ltb-true, and_parts, le-ltb}
 use Rattle.sheet.proofs.Follow.{never, ok_same}
@@ -8,15 +8,15 @@ use Rattle.sheet.proofs.Exact.{by_less, by-test}
 use Rattle.netcode.specs.declared.step.Step.{Step}
 use Rattle.netcode.specs.declared.step.Layout.{Layout}
 use Rattle.netcode.specs.Steps.{numbers_of}
-use Rattle.netcode.specs.Layouts.{program_count, cuts, programs_of}
-use Rattle.programs.specs.Files.{File, all_words, stations_within, layout_within, file_in, steps_of, program_numbers, file_numbers, file_bytes, file_of, laid_on, end_of_file, written_file}
+use Rattle.netcode.specs.Layouts.{program_count, cuts}
+use Rattle.programs.specs.Files.{all_words, stations_within, layout_within, program_numbers, file_bytes, file_of, written_file}
 use Rattle.programs.specs.Laws.{IsFile, StepWords, WrittenReadsBack}
 use Rattle.programs.proofs.Exact.{file-returns}
 
 abbrev Word : ℕ → Type 0
 Word n = n < 2 ^ 32
 
-all_append : (xs ys : List ℕ) → All Word xs → All Word ys → All Word (xs ++ ys)
+all_append : (xs ys : List ℕ) → AllByRecursion Word xs → AllByRecursion Word ys → AllByRecursion Word (xs ++ ys)
 all_append [] ys a b = b
 all_append (x ∷ xs) ys a b = (a.0, all_append xs ys a.1 b)
 
@@ -30,11 +30,11 @@ words_left zero xs w = w
 words_left (suc n) [] w = tt
 words_left (suc n) (x ∷ xs) w = words_left n xs w.1
 
-steps-words : (xs : List Step) → StepWords xs → All Word (flat_map numbers_of xs)
+steps-words : (xs : List Step) → StepWords xs → AllByRecursion Word (flat_map numbers_of xs)
 steps-words [] w = tt
 steps-words (x ∷ xs) w = all_append (numbers_of x) (flat_map numbers_of xs) w.0 (steps-words xs w.1)
 
-programs-words : (ns : List ℕ) (xs : List Step) → all_words ns ≡ true → StepWords xs → All Word (flat_map program_numbers (cuts ns xs))
+programs-words : (ns : List ℕ) (xs : List Step) → all_words ns ≡ true → StepWords xs → AllByRecursion Word (flat_map program_numbers (cuts ns xs))
 programs-words [] xs e w = tt
 programs-words (n ∷ ns) xs e w =
     let p = and_parts (ltb n (2 ^ 32)) (all_words ns) e in

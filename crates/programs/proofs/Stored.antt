@@ -1,4 +1,4 @@
-use Rattle.std.proofs.Common.{◌≡◌, ℕ, zero, suc, ◌+◌, ◌-◌, ◌<◌, ◌≤◌, List, [], ◌∷◌, ◌++◌, map, length, set, Ok, Err, Result, sym, refl, ap, ◌∙◌, add-zero, arith}
+use Rattle.std.proofs.Common.{◌≡◌, ℕ, zero, suc, ◌+◌, ◌-◌, ◌<◌, ◌≤◌, List, [], ◌∷◌, ◌++◌, length, set, Ok, Err, Result, refl, ap, ◌∙◌, add-zero, arith}
 use Rattle.fault.specs.declared.refusal.Fault.{Fault}
 use Rattle.fault.specs.declared.place.Offset.{Offset}
 use Rattle.wire.specs.Numbers.{and_then}
@@ -9,7 +9,7 @@ use Rattle.std.proofs.lemmas.Bool.{le-ltb}
 use Rattle.wire.specs.Numbers.{number_at, after_number}
 use Rattle.sheet.specs.Sheets.{up_then}
 use Rattle.programs.specs.Steps.{one_step, some_steps, step_from, steps_from}
-use Rattle.programs.specs.Files.{Reading, steps_of, one_program, some_programs}
+use Rattle.programs.specs.Files.{Reading, one_program, some_programs}
 use Rattle.programs.specs.Stores.{stored, storing, storing_program, storing_programs}
 
 storing-more : (xs : List Step) (at : ℕ) (s : Step) (r : Read (List Step))

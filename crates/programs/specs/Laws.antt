@@ -1,5 +1,5 @@
 use Rattle.std.specs.Prelude.{◌≡◌, ℕ, ◌^◌, ◌<◌, ◌≤◌, List, length, take, Ok}
-use Rattle.std.specs.List.{AllByRecursion as All}
+use Rattle.std.specs.List.{AllByRecursion}
 use Rattle.wire.specs.Bytes.{Bytes}
 use Rattle.netcode.specs.declared.step.Step.{Step}
 use Rattle.netcode.specs.declared.step.Layout.{Layout}
@@ -12,7 +12,7 @@ pub record IsFile (file : File) : Type 0 where
   pub some : 1 ≤ file.0
   pub few : file.0 ≤ 8
   pub counts : length file.1 ≡ program_count file.0
-  pub words : All (λ n. n < 2 ^ 32) (file_numbers file)
+  pub words : AllByRecursion (λ n. n < 2 ^ 32) (file_numbers file)
 
 -- Given room for its steps, bytes read as a program file exactly when they are its byte form.
 abbrev pub ReadExactly : Type 0
@@ -29,7 +29,7 @@ OneFileForm =
 
 -- Steps whose numbers are of 32 bits.
 abbrev pub StepWords : List Step → Type 0
-StepWords steps = All (λ s. All (λ n. n < 2 ^ 32) (numbers_of s)) steps
+StepWords steps = AllByRecursion (λ s. AllByRecursion (λ n. n < 2 ^ 32) (numbers_of s)) steps
 
 -- What was written is read back, given room for its steps: the bytes written hold the programs that were cut
 -- off from the list of steps.

@@ -1,3 +1,5 @@
+#![tactic(auto)]
+
 mod decode;
 mod encode;
 mod file;

@@ -1,14 +1,13 @@
 -- Programs that stand one after the other are cut apart again.
-use Rattle.std.proofs.Common.{◌≡◌, ℕ, ◌≤◌, List, [], ◌∷◌, ◌++◌, map, length, take, drop, replicate, sym, refl, ap, ◌∙◌, ap₂, append_assoc, arith}
+use Rattle.std.proofs.Common.{◌≡◌, ℕ, List, [], ◌∷◌, ◌++◌, map, length, take, drop, refl, ap, ◌∙◌, ap₂, append_assoc}
 use lib.ListN.{length-map}
 use Rattle.std.proofs.lemmas.List.{take_at, drop_at}
-use Rattle.std.specs.List.{flat_map}
 use Rattle.netcode.specs.declared.step.Step.{Step}
 use Rattle.netcode.specs.Layouts.{cuts, programs_of, program_count}
 use Rattle.sheet.specs.declared.row.Head.{Head}
 use Rattle.sheet.specs.declared.row.Row.{Row}
 use Rattle.translate.specs.Translation.{translated}
-use Rattle.translate.specs.Stores.{steps_of, laid_on, layout_for}
+use Rattle.translate.specs.Stores.{steps_of, layout_for}
 
 cut_apart : (ps : List (List Step)) (rest : List Step) → cuts (map length ps) (steps_of ps ++ rest) ≡ ps
 cut_apart [] rest = refl

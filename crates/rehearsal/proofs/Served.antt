@@ -1,5 +1,5 @@
 -- A run at its making that has served a list of requests.
-use Rattle.std.proofs.Common.{◌≡◌, ℕ, ◌≤◌, cond, ltb, List, ◌++◌, length, drop, Ok, Err, vec_items, Result, sym, refl, ap, ◌∙◌, ap₂}
+use Rattle.std.proofs.Common.{◌≡◌, ◌≤◌, List, ◌++◌, length, drop, Ok, Result, ap, ◌∙◌, ap₂}
 use Rattle.std.proofs.lemmas.Bool.{le-ltb}
 use Rattle.fault.specs.declared.refusal.Fault.{Fault}
 use Rattle.fault.specs.declared.place.BytesPlace.{BytesPlace}

@@ -1,23 +1,17 @@
 -- What an accepted sheet and its translation give.
-use Rattle.std.proofs.Common.{◌≡◌, ℕ, ◌≤◌, cond, ltb, List, ◌++◌, length, take, drop, Some, None, Ok, Err, vec_items, vec_len, Option, Result, sym, refl, ap, ◌∙◌, ap₂, arith, length-take}
+use Rattle.std.proofs.Common.{◌≡◌, ℕ, ◌≤◌, List, Some, None, Ok, vec_items, Option, sym, ap, ◌∙◌, ap₂, arith, length-take}
 use Rattle.std.proofs.lemmas.Bool.{le-ltb}
-use Rattle.fault.specs.declared.refusal.Fault.{Fault}
-use Rattle.fault.specs.declared.place.StepPlace.{StepPlace}
-use Rattle.fault.specs.declared.place.BytesPlace.{BytesPlace}
-use Rattle.fault.specs.declared.place.FitPlace.{FitPlace}
 use Rattle.sheet.specs.declared.row.Head.{Head}
 use Rattle.sheet.specs.declared.row.Row.{Row}
 use Rattle.judge.proofs.Theorem.{accepted-rules}
 use Rattle.stages.specs.declared.stage.Accepted.{Accepted}
 use Rattle.stages.specs.Views.{accepted_head, accepted_rows}
-use Rattle.netcode.specs.declared.step.Step.{Step}
-use Rattle.netcode.specs.declared.step.Layout.{Layout}
 use Rattle.netcode.specs.Layouts.{programs_of}
 use Rattle.netcode.specs.Rules.{first_broken}
 use Rattle.translate.specs.declared.stage.Translated.{Translated}
 use Rattle.translate.specs.Translation.{translated}
 use Rattle.translate.specs.Laws.{Sheet}
-use Rattle.translate.specs.Stores.{needed, steps_of, layout_for, laid_on}
+use Rattle.translate.specs.Stores.{needed}
 use Rattle.translate.proofs.Lawfulness.{programs-lawful}
 use Rattle.plant.specs.Model.{Model}
 use Rattle.plant.specs.Fit.{fit_from}

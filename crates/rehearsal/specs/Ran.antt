@@ -1,5 +1,5 @@
 -- What running an accepted sheet comes to.
-use Rattle.std.specs.Prelude.{◌≡◌, ℕ, cond, List, ◌++◌, length, drop, Some, None, Ok, Err, vec_items, vec_len, Option, Result, nat_lt}
+use Rattle.std.specs.Prelude.{◌≡◌, ℕ, cond, List, ◌++◌, length, drop, Some, None, Ok, Err, vec_items, Option, Result, nat_lt}
 use Rattle.fault.specs.declared.refusal.Fault.{Fault}
 use Rattle.fault.specs.declared.refusal.Refusal.TheVariants.{TooShort}
 use Rattle.fault.specs.declared.place.Place.{Place}
@@ -10,14 +10,12 @@ use Rattle.sheet.specs.declared.row.Row.{Row}
 use Rattle.plant.specs.Model.{Model}
 use Rattle.plant.specs.Fit.{fit_from}
 use Rattle.stages.specs.Views.{accepted_head, accepted_rows}
-use Rattle.stages.specs.declared.stage.Accepted.{Accepted}
 use Rattle.translate.specs.Translation.{translated}
 use Rattle.netcode.specs.declared.step.Step.{Step}
 use Rattle.translate.specs.declared.stage.Translated.{Translated}
 use Rattle.translate.specs.Stores.{needed, steps_of, layout_for}
 use Rattle.semantics.specs.declared.state.Request.{Request}
 use Rattle.semantics.specs.declared.state.Reply.{Reply}
-use Rattle.semantics.specs.Machine.{World}
 use Rattle.semantics.specs.Requests.{ServedAll, served_all, at_making}
 use Rattle.semantics.specs.Promise.{Promised}
 use Rattle.bench.specs.declared.run.Run.{Run}

@@ -53,11 +53,11 @@ pub fn run_sheet<P: Plant>(
     replies: &mut [Reply],
 ) -> Result<Run, Kept>
     ensures { MatchResult result
-        (λ run. (why_not model (accepted_head sheet) (accepted_rows sheet) (vec_len steps) (length replies.old) (length requests.now) ≡ None)
-        × Ran model (accepted_head sheet) (accepted_rows sheet) (meaning plant.old) (meaning plant.new) requests.now replies.old replies.new run)
-        (λ e. (why_not model (accepted_head sheet) (accepted_rows sheet) (vec_len steps) (length replies.old) (length requests.now) ≡ Some e.fault)
+        (λ run. (why_not P.model (accepted_head sheet) (accepted_rows sheet) (vec_len steps) (length replies.old) (length requests.now) ≡ None)
+        × Ran P.model (accepted_head sheet) (accepted_rows sheet) (P.meaning plant.old) (P.meaning plant.new) requests.now replies.old replies.new run)
+        (λ e. (why_not P.model (accepted_head sheet) (accepted_rows sheet) (vec_len steps) (length replies.old) (length requests.now) ≡ Some e.fault)
         × (e.sheet ≡ sheet) × (e.steps.items ≡ steps.items)
-        × (meaning plant.new ≡ meaning plant.old) × (replies.new ≡ replies.old)) }
+        × (P.meaning plant.new ≡ P.meaning plant.old) × (replies.new ≡ replies.old)) }
 {
     if let Err(fault) = fit(plant, &sheet) {
         return Err(kept(sheet, steps, fault.carried()));

@@ -1,3 +1,5 @@
+#![tactic(auto)]
+
 // Examples of running an accepted sheet.
 #[cfg(test)]
 mod tests;

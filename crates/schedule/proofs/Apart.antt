@@ -1,7 +1,7 @@
 -- No tick belongs to two performed sends.
-use Rattle.std.proofs.Common.{◌≡◌, ℕ, zero, suc, ◌+◌, ◌*◌, ◌<◌, ◌≤◌, Bool, true, false, ◌⊎◌, Option, sym, refl, ap, ◌∙◌, inl, inr, ⊎_elim, mul-le-mul_right, arith}
+use Rattle.std.proofs.Common.{◌≡◌, ℕ, suc, ◌+◌, ◌*◌, ◌<◌, ◌≤◌, Bool, true, ◌⊎◌, Option, sym, refl, ap, ◌∙◌, inl, inr, mul-le-mul_right, arith}
 use Rattle.std.proofs.lemmas.Bool.{cases_order}
-use Rattle.schedule.specs.Rows.{Row, Now, Accepted, Excludes, ends, performed, all_meet}
+use Rattle.schedule.specs.Rows.{Row, Now, Accepted, Excludes, ends, all_meet}
 use Rattle.plant.specs.Model.{Work}
 use Rattle.schedule.specs.Machine.{Keep, start_of, cells_of}
 use Rattle.schedule.specs.Cycles.{begins, after_cycles, performs}

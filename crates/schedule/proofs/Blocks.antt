@@ -1,10 +1,10 @@
 -- Running a program from the address of a date is the turn of that date.
-use Rattle.std.proofs.Common.{◌≡◌, ℕ, zero, suc, ◌+◌, ◌-◌, ◌<◌, ◌≤◌, Bool, true, false, cond, ◌&&◌, eqb, ltb, leb, ◌⊎◌, List, [], ◌∷◌, ◌++◌, length, get_or, Some, None, Option, sym, refl, ap, ◌∙◌, subst, ap₂, inl, inr, ⊎_elim, append_assoc, append-nil, add-zero, add-suc, zero-add, add-one, arith, length-append}
+use Rattle.std.proofs.Common.{◌≡◌, ℕ, zero, suc, ◌+◌, ◌-◌, ◌<◌, ◌≤◌, Bool, true, false, cond, ◌⊎◌, List, [], ◌∷◌, ◌++◌, length, get_or, Some, None, Option, sym, refl, ap, ◌∙◌, subst, ap₂, inl, inr, ⊎_elim, append_assoc, append-nil, add-zero, add-suc, zero-add, add-one, arith, length-append}
 use lib.Seq.{get_or_at}
 use Rattle.std.proofs.lemmas.Bool.{cases_Bool, cond-true, cond-false, both_ways}
 use Rattle.schedule.specs.Rows.{Test}
 use Rattle.schedule.proofs.Wake.{wake-skip, due-date}
-use Rattle.schedule.specs.Program.{Step, Engine, tested, acted, one, exec, asks, onward, Share, row_len, due, rows_len, is_date, wake, addr, target, test_code, row_code, tail_code, rows_code, code_to, row_turn, turn, Layout, opening, open_len, Opening, plain, Plain, plainly, heads}
+use Rattle.schedule.specs.Program.{Step, Engine, tested, acted, one, exec, asks, onward, Share, row_len, due, rows_len, is_date, wake, addr, target, test_code, row_code, rows_code, code_to, row_turn, turn, Layout, opening, open_len, Opening, plain, Plain, plainly, heads}
 
 -- the code c stands in p at pc
 Has : List Step → ℕ → List Step → Type 0

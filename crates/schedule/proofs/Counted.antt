@@ -1,8 +1,8 @@
 -- Lists of calls come to a number of ticks.
-use Rattle.std.proofs.Common.{◌≡◌, ℕ, zero, suc, ◌+◌, ◌-◌, ◌<◌, ◌≤◌, min, Bool, true, false, cond, eqb, ltb, ◌⊎◌, List, [], ◌∷◌, Some, None, Option, sym, refl, ap, ◌∙◌, subst, ap₂, inl, inr, arith}
+use Rattle.std.proofs.Common.{◌≡◌, ℕ, zero, suc, ◌+◌, ◌-◌, ◌<◌, ◌≤◌, min, false, cond, eqb, ltb, ◌⊎◌, List, [], ◌∷◌, Some, Option, sym, refl, ap, ◌∙◌, subst, ap₂, inl, inr, arith}
 use Rattle.std.proofs.lemmas.Bool.{cond-true, cond-false, eq-eqb, ne_eqb, cases_lt, lt-ltb, le-ltb}
 use Rattle.schedule.specs.Machine.{Bench}
-use Rattle.schedule.specs.Requests.{Call, World, Outcome, limit, moved, tick_of, on_with, ticks_of, call_of, calls_of, wants, asked, At, Granted, Ending, Reply, reply_on, reply_ticks, reply_of, due_reply, Replied}
+use Rattle.schedule.specs.Requests.{Call, World, Outcome, limit, moved, tick_of, on_with, ticks_of, call_of, calls_of, wants, asked, At, Granted, Ending, Reply, reply_on, reply_ticks, reply_of, Replied}
 
 module _ {S : Type 0} (step : ℕ → Bench S → Option (Bench S)) (run : ℕ → Option (Bench S))
     (goes : (m : ℕ) (b : Bench S) → run m ≡ Some b → run (suc m) ≡ step m b) (all : (m : ℕ) → (b : Bench S) × (run m ≡ Some b)) where

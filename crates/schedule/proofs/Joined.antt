@@ -1,11 +1,11 @@
 -- All parts of the run promise together.
-use Rattle.std.proofs.Common.{◌≡◌, ℕ, zero, suc, ◌+◌, ◌*◌, ◌<◌, ◌≤◌, min, Bool, true, false, List, Some, None, Option, sym, refl, ap, ◌∙◌, subst, ap₂, zero-add}
+use Rattle.std.proofs.Common.{◌≡◌, ℕ, suc, ◌*◌, ◌<◌, min, Bool, List, Some, Option, sym, refl, ap, ◌∙◌, subst, ap₂, zero-add}
 use Rattle.schedule.specs.Rows.{Row, Accepted}
 use Rattle.plant.specs.Model.{Work}
 use Rattle.schedule.specs.Plants.{Lawful}
-use Rattle.schedule.specs.Machine.{Keep, Bench, Fit, start_of, program, tick, ticks, bind}
+use Rattle.schedule.specs.Machine.{Keep, Bench, Fit, start_of, tick, ticks, bind}
 use Rattle.schedule.specs.Cycles.{Made, Whole}
-use Rattle.schedule.specs.Requests.{Call, World, limit, asked, calls_of, At}
+use Rattle.schedule.specs.Requests.{Call, limit, asked, At}
 use Rattle.schedule.specs.Marks.{MarkIs}
 use Rattle.schedule.specs.Lawful.{Limits}
 use Rattle.schedule.specs.Plain.{new_bench, new_world, world_after, HoldsReading, Promised, RunPromiseStands}

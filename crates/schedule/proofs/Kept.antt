@@ -1,12 +1,12 @@
 -- Translated programs keep the rules of programs.
-use Rattle.std.proofs.Common.{◌≡◌, ℕ, zero, suc, ◌+◌, ◌-◌, ◌*◌, ◌/◌, ◌<◌, ◌≤◌, Bool, true, false, cond, not, ◌&&◌, eqb, ltb, ◌⊎◌, List, [], ◌∷◌, ◌++◌, length, get_or, Some, None, Option, sym, refl, ap, ◌∙◌, subst, ap₂, inl, inr, ⊎_elim, append_assoc, append-nil, add-zero, add-suc, zero-add, arith, length-append}
-use Rattle.std.proofs.lemmas.Bool.{cases_Bool, cond-true, cond-false, and_parts, eqb-true, ltb-true, lt-ltb, le-ltb, cases_lt, cases_order, both_ways}
-use Rattle.schedule.specs.Rows.{Test, Row, Mem, Accepted, ends}
-use Rattle.schedule.specs.Program.{Step, Share, row_len, due, rows_len, is_date, search_date, wake, addr, target, test_code, row_code, tail_code, rows_code, code_to, open_len, opening}
-use Rattle.schedule.specs.Machine.{Keep, start_of, is_line, mine, share_of, program, keep_code, give_code, head_of}
+use Rattle.std.proofs.Common.{◌≡◌, ℕ, zero, suc, ◌+◌, ◌-◌, ◌*◌, ◌/◌, ◌<◌, ◌≤◌, Bool, true, false, cond, eqb, ◌⊎◌, List, [], ◌∷◌, ◌++◌, length, get_or, None, sym, refl, ap, ◌∙◌, subst, inl, inr, append_assoc, append-nil, add-zero, add-suc, zero-add, arith, length-append}
+use Rattle.std.proofs.lemmas.Bool.{cases_Bool, cond-true, cond-false, and_parts, eqb-true, lt-ltb, le-ltb, cases_lt}
+use Rattle.schedule.specs.Rows.{Test, Row, Mem, ends}
+use Rattle.schedule.specs.Program.{Step, Share, row_len, due, rows_len, is_date, search_date, wake, addr, target, test_code, row_code, rows_code, code_to, open_len, opening}
+use Rattle.schedule.specs.Machine.{Keep, is_line, share_of, program, keep_code, give_code, head_of}
 use Rattle.schedule.specs.Lawful.{ActOk, StepOk, ProgramOk, Limits, ProgramsKeep}
 use Rattle.schedule.proofs.Wake.{wake-le, wake-most, wake-skip}
-use Rattle.schedule.proofs.Blocks.{length-tests, length-row, length-rows, length-code, length-opening}
+use Rattle.schedule.proofs.Blocks.{length-row, length-code, length-opening}
 use Rattle.schedule.proofs.Size.{sized}
 use Rattle.schedule.proofs.Openings.{length-head}
 

@@ -1,11 +1,11 @@
 -- From marks by recursion to marks over cycles.
-use Rattle.std.proofs.Common.{◌≡◌, ℕ, zero, suc, ◌+◌, ◌-◌, ◌*◌, ◌<◌, ◌≤◌, Bool, true, false, cond, ◌&&◌, ltb, ◌⊎◌, Some, None, Option, sym, refl, ap, ◌∙◌, subst, ap₂, inl, inr, ⊎_elim, add-zero, add-suc, zero-mul, arith}
-use Rattle.std.proofs.lemmas.Bool.{cases_Bool, cond-true, cond-false, and_right, and_from, lt-ltb, le-ltb, ltb-true, cases_lt, cases_order, both_ways}
-use Rattle.schedule.specs.Rows.{Row, Accepted, ends}
+use Rattle.std.proofs.Common.{◌≡◌, ℕ, zero, suc, ◌+◌, ◌*◌, ◌<◌, ◌≤◌, Bool, true, false, cond, ◌&&◌, ltb, ◌⊎◌, Some, None, sym, refl, ap, ◌∙◌, subst, inl, inr, ⊎_elim, add-zero, add-suc, zero-mul, arith}
+use Rattle.std.proofs.lemmas.Bool.{cases_Bool, cond-true, cond-false, and_right, lt-ltb, le-ltb, cases_lt, cases_order, both_ways}
+use Rattle.schedule.specs.Rows.{Row}
 use Rattle.plant.specs.Model.{Work}
 use Rattle.schedule.specs.Plants.{Lawful}
-use Rattle.schedule.specs.Machine.{Keep, Bench, Mark, Fit, start_of, ticks}
-use Rattle.schedule.specs.Cycles.{performs, mark_in, mark_after, blank_mark, Made}
+use Rattle.schedule.specs.Machine.{Keep, Bench, Mark, ticks}
+use Rattle.schedule.specs.Cycles.{performs, mark_in, mark_after, blank_mark}
 use Rattle.schedule.specs.Marks.{countb, counts, told, MarkIs, MarksStand}
 use Rattle.schedule.proofs.Apart.{cycles-up}
 use Rattle.schedule.proofs.Whole.{run-stands}

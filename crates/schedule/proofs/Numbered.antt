@@ -1,20 +1,18 @@
 -- The bench with refusals, and the one that only says that there was one.
-use Rattle.std.proofs.Common.{◌≡◌, ℕ, zero, suc, ◌+◌, ◌-◌, ◌*◌, ◌/◌, ◌<◌, ◌≤◌, min, Bool, true, false, cond, not, ◌&&◌, ◌||◌, eqb, ltb, ◌⊎◌, List, [], ◌∷◌, length, get_or, Some, None, Option, sym, refl, ap, ◌∙◌, subst, ap₂, inl, inr, ⊎_elim, arith}
+use Rattle.std.proofs.Common.{◌≡◌, ℕ, zero, suc, ◌+◌, ◌-◌, ◌*◌, ◌/◌, ◌<◌, ◌≤◌, min, Bool, true, false, cond, not, ◌&&◌, ◌||◌, eqb, ltb, ◌⊎◌, List, [], ◌∷◌, length, get_or, Some, None, Option, sym, refl, ap, ◌∙◌, subst, ap₂, inl, inr, arith}
 use Rattle.std.proofs.lemmas.Bool.{cond-true, cond-false, eq-eqb, ne_eqb, cases_lt, lt-ltb, le-ltb}
 use Rattle.schedule.specs.Rows.{Test, meets, Row, Accepted}
 use Rattle.plant.specs.Model.{Work}
 use Rattle.schedule.specs.Plants.{Lawful}
 use Rattle.schedule.specs.Program.{Step, Engine, one, tested, acted, exec}
-use Rattle.schedule.specs.Machine.{Keep, Bench, Job, Message, Fit, is_none, bind, is_line, program, start_of, present, answered, own, guard, begin, engine, turn_at, first_to, store, release, heard, land, ended, settle_to, leave, tick, ticks}
+use Rattle.schedule.specs.Machine.{Keep, Bench, Job, Message, Fit, is_none, bind, is_line, program, start_of, present, answered, own, begin, engine, turn_at, first_to, heard, land, ended, settle_to, leave, tick, ticks}
 use Rattle.schedule.specs.Requests.{Call, limit, wants, asked}
-use Rattle.schedule.specs.Marks.{MarkIs}
 use Rattle.schedule.specs.Lawful.{Limits}
-use Rattle.schedule.specs.Cycles.{Whole}
-use Rattle.schedule.specs.Plain.{new_bench, HoldsReading}
-use Rattle.schedule.specs.Faults.{Fault, Noted, Did, and_then, refuse, change, tries, fault_of, acting, testing, step_of, run_of, turn_of, first_of, hearing, landing, ending, settle_of, tick_once, Held, Tried, Answer, plain_fault, after, try_tick, held_on, answer_on, held_ticks, answer_ticks, held_calls, due_answer, new_held, held_after, Kept, NumberedPromise}
+use Rattle.schedule.specs.Plain.{new_bench}
+use Rattle.schedule.specs.Faults.{Noted, Did, and_then, tries, fault_of, acting, testing, step_of, run_of, turn_of, first_of, hearing, landing, ending, settle_of, tick_once, Held, Tried, Answer, plain_fault, after, try_tick, held_on, answer_on, held_ticks, answer_ticks, held_calls, due_answer, new_held, held_after, Kept, NumberedPromise}
 use Rattle.schedule.proofs.Apart.{sends-apart}
 use Rattle.schedule.proofs.Kept.{programs-keep}
-use Rattle.schedule.proofs.Joined.{goes, marks, all, holds, marked}
+use Rattle.schedule.proofs.Joined.{goes, all, holds, marked}
 
 abbrev erase : {S : Type 0} → Did (Noted S) → Option (Bench S)
 erase (Did.good s) = Some s.bench

@@ -1,12 +1,12 @@
 -- KEEP, CLEAR and GIVE, step by step, come to the station prepared at once.
-use Rattle.std.proofs.Common.{◌≡◌, ℕ, zero, suc, ◌+◌, ◌*◌, ◌/◌, ◌<◌, ◌≤◌, Bool, true, false, cond, not, ◌&&◌, eqb, ltb, ◌⊎◌, List, [], ◌∷◌, ◌++◌, length, Some, None, Option, sym, refl, ap, ◌∙◌, subst, ap₂, inl, inr, ⊎_elim, arith, length-append}
+use Rattle.std.proofs.Common.{◌≡◌, ℕ, zero, suc, ◌+◌, ◌*◌, ◌/◌, ◌<◌, ◌≤◌, Bool, true, false, cond, not, ◌&&◌, eqb, ltb, ◌⊎◌, List, [], ◌∷◌, ◌++◌, length, Some, Option, sym, refl, ap, ◌∙◌, ap₂, inl, inr, arith, length-append}
 use mathlib.Core.Path.{fun_ext}
 use Rattle.std.proofs.lemmas.Bool.{cases_Bool, cond-true, cond-false, eq-eqb, ne_eqb, eqb-true, lt-ltb, le-ltb, cases_eq, cases_lt}
 use Rattle.schedule.specs.Rows.{Row}
 use Rattle.plant.specs.Model.{Work}
 use Rattle.schedule.specs.Pick.{pick}
-use Rattle.schedule.specs.Program.{Step, Engine, Plain, heads, plainly}
-use Rattle.schedule.specs.Machine.{Keep, Bench, is_line, take_in, or_first, cells_of, start_of, keep_code, give_code, head_of, cells_at, prepared, taken, wiped, put, engine}
+use Rattle.schedule.specs.Program.{Step, Engine, Plain, heads}
+use Rattle.schedule.specs.Machine.{Keep, Bench, is_line, take_in, or_first, keep_code, give_code, head_of, cells_at, prepared, wiped, engine}
 use Rattle.schedule.proofs.Blocks.{heads-append}
 
 plain-append : (c d : List Step) → Plain c → Plain d → Plain (c ++ d)

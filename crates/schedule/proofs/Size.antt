@@ -1,5 +1,5 @@
 -- A program of n rows of at most four tests has at most 9 steps a row besides its opening.
-use Rattle.std.proofs.Common.{◌≡◌, ℕ, zero, suc, ◌+◌, ◌*◌, ◌<◌, ◌≤◌, Bool, true, false, cond, ◌&&◌, eqb, ltb, ◌⊎◌, List, length, sym, refl, ap, ◌∙◌, subst, ap₂, inl, inr, arith}
+use Rattle.std.proofs.Common.{◌≡◌, ℕ, zero, suc, ◌+◌, ◌*◌, ◌<◌, ◌≤◌, Bool, true, false, cond, ltb, ◌⊎◌, List, length, refl, inl, inr, arith}
 use Rattle.std.proofs.lemmas.Bool.{cases_Bool, cond-true, cond-false, ltb-true, and_parts, eqb-true, lt-ltb, le-ltb}
 use Rattle.schedule.specs.Program.{Step, Share, row_len, due, rows_len, is_date, addr, code_to, Sized}
 use Rattle.schedule.proofs.Blocks.{length-code}

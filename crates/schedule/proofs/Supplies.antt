@@ -1,12 +1,12 @@
 -- What a row meets on the bench at its date.
-use Rattle.std.proofs.Common.{◌≡◌, ℕ, zero, suc, ◌+◌, ◌-◌, ◌<◌, ◌≤◌, Bool, true, false, cond, not, ◌&&◌, ◌||◌, eqb, ltb, leb, ◌⊎◌, List, [], ◌∷◌, ◌++◌, Some, None, Option, sym, refl, ap, ◌∙◌, subst, ap₂, inl, inr, ⊎_elim, append_assoc, arith}
-use Rattle.std.proofs.lemmas.Bool.{cases_Bool, cond-true, cond-false, both_ways, and_parts, and_from, and_left, and_right, eqb-true, eq-eqb, or_left, or_right, or_cases, le-leb, leb-true, ltb-true, lt-ltb, not_from_true}
-use Rattle.schedule.specs.Rows.{Test, meets, all_meet, Row, ends, reaches, Places, word_of, word1, word2, asked, Now, given, read_to, Mem, Excludes, Within, Concerns, Supply, Accepted}
+use Rattle.std.proofs.Common.{◌≡◌, ℕ, zero, suc, ◌<◌, ◌≤◌, Bool, true, false, cond, not, ◌&&◌, ◌||◌, eqb, ltb, leb, ◌⊎◌, List, [], ◌∷◌, ◌++◌, Some, None, Option, sym, refl, ap, ◌∙◌, ap₂, inl, inr, ⊎_elim, append_assoc, arith}
+use Rattle.std.proofs.lemmas.Bool.{cases_Bool, cond-true, cond-false, both_ways, and_parts, and_from, eqb-true, eq-eqb, or_left, or_right, or_cases, le-leb, ltb-true}
+use Rattle.schedule.specs.Rows.{Test, meets, all_meet, Row, ends, reaches, Places, word_of, word1, word2, Now, Concerns, Supply, Accepted}
 use Rattle.plant.specs.Model.{Work}
 use Rattle.schedule.specs.Program.{Engine, asks, onward}
 use Rattle.schedule.specs.Machine.{is_none, present, answered}
 use Rattle.schedule.proofs.Pick.{find}
-use Rattle.schedule.proofs.Valuation.{at, did, word, val, did-final, word-final, coh-final, row_step, row_zero, Held, held-later, held_by, supply-held, good, Good, meet-up, meet-snoc, within-meet}
+use Rattle.schedule.proofs.Valuation.{at, did, word, val, did-final, word-final, coh-final, row_step, row_zero, held-later, held_by, supply-held, good, meet-up, meet-snoc, within-meet}
 
 unfoldable pub anyb : (ℕ → Bool) → ℕ → Bool
 anyb P zero = false

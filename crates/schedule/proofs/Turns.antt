@@ -1,21 +1,21 @@
 -- The first part of a tick: the turn of each unit.
-use Rattle.std.proofs.Common.{◌≡◌, ℕ, zero, suc, ◌+◌, ◌-◌, ◌*◌, ◌/◌, ◌%◌, ◌<◌, ◌≤◌, Bool, true, false, cond, not, ◌&&◌, ◌||◌, eqb, ltb, leb, ◌⊎◌, List, [], ◌∷◌, ◌++◌, length, Some, None, Option, sym, refl, ap, ◌∙◌, subst, ap₂, inl, inr, ⊎_elim, arith}
-use Rattle.std.proofs.lemmas.Bool.{cases_Bool, cond-true, cond-false, both_ways, and_parts, and_from, and_left, and_right, eqb-true, eqb-false, eq-eqb, ne_eqb, or_left, or_right, or_cases, le-leb, lt-leb, leb-true, ltb-true, ltb-false, lt-ltb, le-ltb, not-true, not_from_false, not_from_true, cases_eq, cases_order, cases_lt}
+use Rattle.std.proofs.Common.{◌≡◌, ℕ, zero, suc, ◌+◌, ◌-◌, ◌*◌, ◌/◌, ◌%◌, ◌<◌, ◌≤◌, Bool, true, false, cond, not, ◌&&◌, ◌||◌, eqb, ltb, leb, ◌⊎◌, length, Some, None, Option, sym, refl, ap, ◌∙◌, subst, ap₂, inl, inr, ⊎_elim, arith}
+use Rattle.std.proofs.lemmas.Bool.{cases_Bool, cond-true, cond-false, both_ways, and_parts, and_from, and_left, and_right, eqb-true, eqb-false, eq-eqb, ne_eqb, or_left, or_right, or_cases, lt-leb, ltb-true, lt-ltb, le-ltb, not-true, not_from_false, cases_eq, cases_order, cases_lt}
 use Rattle.std.proofs.lemmas.Bool.Decides.{nat_tests}
-use Rattle.schedule.specs.Rows.{Test, all_meet, Row, ends, reaches, Places, word1, word2, asked, Now, given, read_to, Excludes, Concerns, Accepted}
+use Rattle.schedule.specs.Rows.{all_meet, Row, ends, reaches, Places, word1, word2, asked, Now, read_to, Excludes, Concerns, Accepted}
 use Rattle.plant.specs.Model.{Work}
-use Rattle.schedule.specs.Program.{Engine, exec, asks, Share, due, is_date, wake, addr, target, code_to, turn, row_turn, opening, open_len}
+use Rattle.schedule.specs.Program.{Engine, exec, asks, Share, due, is_date, wake, addr, target, turn, row_turn, opening}
 use Rattle.schedule.specs.Plants.{Lawful}
 use Rattle.plant.specs.Order.{after_begun}
-use Rattle.schedule.specs.Machine.{Job, UnitState, Message, Mark, Bench, said, is_none, bind, is_line, owner, mine, share_of, program, present, answered, gives, own, guard, begin, wait, engine, Keep, take_in, or_first, cells_of, start_of, open_of, head_of, cells_at, prepared, began, cells_after, turn_at, first_to, Fit, marked, store, release, heard, land, ended, settle_to, left, leave, tick, ticks, Opened, Closed, CyclePromise, DatePromise}
+use Rattle.schedule.specs.Machine.{Job, UnitState, Message, Mark, Bench, said, is_none, bind, is_line, owner, mine, share_of, program, present, gives, own, guard, begin, wait, engine, Keep, take_in, or_first, cells_of, start_of, open_of, head_of, cells_at, prepared, began, turn_at, first_to, Fit, marked, store, release, heard, land, ended, settle_to, left, leave, tick, ticks, Opened, Closed, CyclePromise, DatePromise}
 use Rattle.schedule.specs.Pick.{pick}
 use Rattle.schedule.proofs.Pick.{pick-cong, pick-none, pick_same, pick_inv, pick_some, find}
-use Rattle.schedule.proofs.Valuation.{at, did, word, val, did-final, word-final, excl-not}
-use Rattle.schedule.proofs.Supplies.{anyb, any_same, any-hit, any-miss, V, does, puts, held, shown_at, row-asks, all-present, input1, input2, at-end, shown-some, held_start, start-val}
+use Rattle.schedule.proofs.Valuation.{at, did, word, did-final, word-final, excl-not}
+use Rattle.schedule.proofs.Supplies.{anyb, any_same, any-hit, any-miss, V, does, puts, shown_at, row-asks, all-present, input1, input2, at-end, shown-some, held_start, start-val}
 use Rattle.plant.proofs.Begun.{same_set, any_order}
 use Rattle.schedule.proofs.Blocks.{layout-any, opening-any, length-opening}
 use Rattle.schedule.proofs.Openings.{head_plain, head-runs}
-use Rattle.schedule.proofs.Wake.{wake-le, wake-most, wake-date, wake-skip, wake-end, due-date}
+use Rattle.schedule.proofs.Wake.{wake-le, wake-date, wake-skip, wake-end, due-date}
 
 own-next : (d t o j : ℕ) → (d ≡ t → o ≡ j → ⊥) → (ltb d t || (eqb d t && ltb o j)) ≡ (ltb d t || (eqb d t && ltb o (suc j)))
 own-next d t o j h = grind (arith, nat_tests)

@@ -1,11 +1,10 @@
 -- One word for each variable in a cycle.
-use Rattle.std.proofs.Common.{◌≡◌, ℕ, zero, suc, ◌+◌, ◌-◌, ◌<◌, ◌≤◌, Bool, true, false, cond, not, ◌&&◌, ◌||◌, eqb, ltb, leb, ◌⊎◌, List, [], ◌∷◌, ◌++◌, Some, None, Option, sym, refl, ap, ◌∙◌, subst, ap₂, inl, inr, ⊎_elim, append_assoc, add-zero, add-suc, arith}
-use Rattle.std.proofs.lemmas.Bool.{cases_Bool, cond-true, cond-false, both_ways, and_parts, and_from, and_left, and_right, eqb-true, eq-eqb, cases_order, cases_lt, not-true, not_from_false, lt-ltb}
-use Rattle.std.proofs.lemmas.Bool.Decides.{nat_tests}
-use Rattle.schedule.specs.Rows.{Test, meets, all_meet, Row, ends, reaches, Places, word_of, word1, word2, asked, Now, given, do_row, read_to, Mem, Apart, Excludes, Within, Concerns, Supply, Accepted, OneValuation}
+use Rattle.std.proofs.Common.{◌≡◌, ℕ, zero, suc, ◌+◌, ◌-◌, ◌<◌, ◌≤◌, Bool, true, false, cond, not, ◌&&◌, eqb, ltb, ◌⊎◌, List, [], ◌∷◌, ◌++◌, Some, None, Option, sym, refl, ap, ◌∙◌, ap₂, inl, inr, ⊎_elim, append_assoc, add-zero, add-suc, arith}
+use Rattle.std.proofs.lemmas.Bool.{cases_Bool, cond-true, cond-false, both_ways, and_parts, and_from, and_left, eqb-true, eq-eqb, cases_order, not-true, not_from_false, lt-ltb}
+use Rattle.schedule.specs.Rows.{Test, meets, all_meet, Row, reaches, Places, word_of, Now, given, read_to, Mem, Apart, Excludes, Within, Concerns, Supply, Accepted, OneValuation}
 use Rattle.plant.specs.Model.{Work}
 use Rattle.schedule.specs.Pick.{pick}
-use Rattle.schedule.proofs.Pick.{pick-none, pick_same, pick_inv, pick_some, find}
+use Rattle.schedule.proofs.Pick.{pick-none, pick_inv, pick_some}
 
 -- TESTS
 apart-not : (t u : Test) (o : Option ℕ) → Apart t u → meets t o ≡ true → meets u o ≡ true → ⊥

@@ -1,11 +1,11 @@
 -- Cycle after cycle.
-use Rattle.std.proofs.Common.{◌≡◌, ℕ, zero, suc, ◌+◌, ◌*◌, ◌<◌, ◌≤◌, Bool, true, false, cond, ◌&&◌, ltb, Some, None, Option, sym, refl, ap, ◌∙◌, subst, ap₂, add-zero, add-suc, zero-add, zero-mul, arith}
+use Rattle.std.proofs.Common.{◌≡◌, ℕ, zero, suc, ◌+◌, ◌*◌, ◌<◌, ◌≤◌, Bool, cond, ◌&&◌, ltb, Some, Option, sym, refl, ap, ◌∙◌, subst, ap₂, add-zero, add-suc, zero-add, zero-mul, arith}
 use mathlib.Core.Path.{fun_ext}
-use Rattle.schedule.specs.Rows.{Row, Places, Now, read_to, performed, Accepted}
+use Rattle.schedule.specs.Rows.{Row, read_to, performed, Accepted}
 use Rattle.plant.specs.Model.{Work}
 use Rattle.schedule.specs.Plants.{Lawful}
-use Rattle.schedule.specs.Machine.{Keep, Bench, Mark, Fit, Opened, Closed, cells_of, start_of, tick, ticks, marked, began, bind}
-use Rattle.schedule.specs.Cycles.{Reading, begins, cycle, after_cycles, performs, mark_in, mark_after, Made, Whole, RunPromise}
+use Rattle.schedule.specs.Machine.{Keep, Bench, Fit, Opened, Closed, cells_of, start_of, tick, ticks, marked, began, bind}
+use Rattle.schedule.specs.Cycles.{Reading, begins, after_cycles, performs, mark_in, mark_after, Made, Whole, RunPromise}
 use Rattle.schedule.proofs.Turns.{cycle-stands, dates-stand}
 
 module _ {S : Type 0} (next : S → Work → S) (answer : S → Work → ℕ) (law : Lawful S next answer) (knows : ℕ → ℕ → ℕ → Bool) (r : ℕ → Row) (n L : ℕ) (kp : ℕ → Keep) (nk stations : ℕ)

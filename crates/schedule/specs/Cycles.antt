@@ -1,5 +1,5 @@
 -- The run promise over whole runs: any number of ticks from the bench's making.
-use Rattle.std.specs.Prelude.{◌≡◌, ℕ, zero, suc, ◌+◌, ◌*◌, ◌<◌, ◌≤◌, Bool, true, false, cond, ◌&&◌, Some, None, Option, nat_lt}
+use Rattle.std.specs.Prelude.{◌≡◌, ℕ, zero, suc, ◌+◌, ◌*◌, ◌<◌, ◌≤◌, Bool, cond, ◌&&◌, Some, None, Option, nat_lt}
 use Rattle.schedule.specs.Rows.{Row, Places, Now, read_to, performed, Accepted}
 use Rattle.plant.specs.Model.{Work}
 use Rattle.schedule.specs.Machine.{Keep, Bench, Mark, Fit, Opened, cells_of, start_of, ticks, marked}

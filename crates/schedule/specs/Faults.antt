@@ -1,5 +1,5 @@
 -- The bench with its refusals: number, program and address; a refused tick keeps what its earlier steps did, and stops the run.
-use Rattle.std.specs.Prelude.{◌≡◌, ℕ, zero, suc, ◌+◌, ◌-◌, ◌*◌, ◌/◌, ◌<◌, ◌≤◌, min, Bool, true, false, cond, not, ◌&&◌, List, [], ◌∷◌, length, Some, None, Option, ◌==◌, nat_lt, slice_index_or}
+use Rattle.std.specs.Prelude.{◌≡◌, ℕ, zero, suc, ◌-◌, ◌*◌, ◌/◌, ◌<◌, min, Bool, true, false, cond, not, ◌&&◌, List, [], ◌∷◌, length, Some, None, Option, ◌==◌, nat_lt, slice_index_or}
 use Rattle.schedule.specs.Rows.{Test, meets, Row, Accepted}
 use Rattle.plant.specs.Model.{Work}
 use Rattle.schedule.specs.Program.{Step}

@@ -1,5 +1,5 @@
 -- The rules that a bench asks of a program, the limits of a sheet's head and fields, and that translated programs keep the rules.
-use Rattle.std.specs.Prelude.{◌≡◌, ℕ, zero, suc, ◌+◌, ◌*◌, ◌<◌, ◌≤◌, Bool, true, false, List, [], ◌∷◌, ◌++◌, length, Option, slice_index_or}
+use Rattle.std.specs.Prelude.{◌≡◌, ℕ, ◌+◌, ◌*◌, ◌<◌, ◌≤◌, false, List, [], ◌∷◌, ◌++◌, length, Option, slice_index_or}
 use Rattle.schedule.specs.Rows.{Test, Row, Mem, Accepted}
 use Rattle.schedule.specs.Program.{Step}
 use Rattle.schedule.specs.Machine.{Keep, start_of, program}

@@ -1,11 +1,10 @@
 -- The bench over one cycle: keep rows, units with addresses, one line, marks, a plant.
 -- None stands for every refusal (12, 14 to 17).
 use Rattle.std.specs.Prelude.{◌≡◌, ℕ, zero, suc, ◌+◌, ◌*◌, ◌/◌, ◌%◌, ◌<◌, ◌≤◌, Bool, true, false, cond, not, ◌&&◌, ◌||◌, List, [], ◌∷◌, ◌++◌, length, Some, None, Option, ◌==◌, nat_lt}
-use Rattle.schedule.specs.Rows.{Test, meets, all_meet, Row, ends, reaches, Places, word1, word2, asked, Now, given, read_to, performed, Accepted}
+use Rattle.schedule.specs.Rows.{Test, meets, Row, ends, Places, word1, word2, asked, Now, given, read_to, performed, Accepted}
 use Rattle.plant.specs.Model.{Work}
 use Rattle.schedule.specs.Pick.{pick}
-use Rattle.schedule.specs.Program.{Step, Engine, exec, Share, wake, target, code_to, opening, open_len}
-use Rattle.schedule.specs.Plants.{Lawful}
+use Rattle.schedule.specs.Program.{Step, Engine, exec, Share, code_to, opening, open_len}
 
 pub record Job : Type 0 where
   pub stop : ℕ

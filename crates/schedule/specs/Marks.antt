@@ -1,5 +1,5 @@
 -- What the marks say, over cycles: how many cycles count for a row, and the words of the latest.
-use Rattle.std.specs.Prelude.{◌≡◌, ℕ, zero, suc, ◌+◌, ◌*◌, ◌<◌, ◌≤◌, Bool, true, false, cond, ◌&&◌, ◌⊎◌, Some, None, Option, nat_lt}
+use Rattle.std.specs.Prelude.{◌≡◌, ℕ, zero, suc, ◌+◌, ◌*◌, ◌<◌, ◌≤◌, Bool, true, false, cond, ◌&&◌, ◌⊎◌, Some, Option, nat_lt}
 use Rattle.schedule.specs.Rows.{Row, Now, word1, word2, given, read_to, Accepted}
 use Rattle.plant.specs.Model.{Work}
 use Rattle.schedule.specs.Machine.{Keep, Bench, Mark, Fit, said, start_of, ticks}

@@ -1,8 +1,8 @@
 -- THE RUN PROMISE as one statement: for every plant that keeps the law, every accepted sheet that it fits, and every list of calls.
-use Rattle.std.specs.Prelude.{◌≡◌, ℕ, zero, suc, ◌+◌, ◌*◌, ◌<◌, ◌≤◌, min, Bool, true, false, List, Some, None, Option}
+use Rattle.std.specs.Prelude.{◌≡◌, ℕ, ◌*◌, ◌<◌, min, Bool, true, false, List, None, Option}
 use Rattle.schedule.specs.Rows.{Row, Accepted}
 use Rattle.plant.specs.Model.{Work}
-use Rattle.schedule.specs.Machine.{Keep, Bench, Mark, Fit, start_of, program, tick}
+use Rattle.schedule.specs.Machine.{Keep, Bench, Fit, start_of, program, tick}
 use Rattle.schedule.specs.Cycles.{after_cycles, performs, blank_mark}
 use Rattle.schedule.specs.Requests.{Call, World, Reply, limit, asked, calls_of, reply_of, due_reply}
 use Rattle.schedule.specs.Marks.{MarkIs}

@@ -1,5 +1,5 @@
 -- The rules of acceptance on the sheet alone, without words or cells, and the run promise under them.
-use Rattle.std.specs.Prelude.{◌≡◌, ℕ, zero, suc, ◌+◌, ◌*◌, ◌<◌, ◌≤◌, Bool, true, false, ◌⊎◌, List, [], ◌∷◌, ◌++◌, ◌≢◌}
+use Rattle.std.specs.Prelude.{◌≡◌, ℕ, ◌<◌, ◌≤◌, Bool, true, false, ◌⊎◌, List, ◌∷◌, ◌++◌, ◌≢◌}
 use Rattle.schedule.specs.Rows.{Test, Row, ends, reaches, Excludes, Within, Concerns}
 use Rattle.plant.specs.Model.{Work}
 use Rattle.schedule.specs.Machine.{Keep, Fit}

@@ -1,5 +1,5 @@
 -- The ticks of a performed send, and that no tick belongs to two.
-use Rattle.std.specs.Prelude.{◌≡◌, ℕ, ◌+◌, ◌*◌, ◌<◌, ◌≤◌, Bool, true, false, Option}
+use Rattle.std.specs.Prelude.{◌≡◌, ℕ, ◌+◌, ◌*◌, ◌<◌, ◌≤◌, Bool, true, Option}
 use Rattle.schedule.specs.Rows.{Row, Accepted}
 use Rattle.plant.specs.Model.{Work}
 use Rattle.schedule.specs.Machine.{Keep, start_of}

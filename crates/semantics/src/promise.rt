@@ -5,7 +5,7 @@ use plant::Plant;
 // The run promise, of every plant: above it every accepted sheet whose works it knows runs as its reading says, whatever
 // is asked of the run.
 pub fn run_promise_stands<P: Plant>(_plant: &P) -> u8
-    ensures { RunPromiseOf model }
+    ensures { RunPromiseOf P.model }
 {
     0
 }

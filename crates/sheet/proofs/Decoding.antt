@@ -1,5 +1,5 @@
 -- A row read with its condition as bytes, and then decoded, is the row read at once.
-use Rattle.std.proofs.Common.{◌≡◌, ℕ, zero, suc, ◌-◌, Bool, true, false, cond, eqb, List, [], ◌∷◌, ◌++◌, take, drop, Ok, Err, Result, sym, refl, ap, ◌∙◌, subst}
+use Rattle.std.proofs.Common.{◌≡◌, ℕ, ◌-◌, Bool, true, false, cond, eqb, List, Ok, Err, Result, refl, ap}
 use Rattle.fault.specs.declared.refusal.Fault.{Fault}
 use Rattle.fault.specs.declared.place.Offset.{Offset}
 use Rattle.wire.specs.Numbers.{number_at, after_number, and_then}
@@ -7,10 +7,10 @@ use Rattle.wire.proofs.Spelled.{reads_local, cut}
 use Rattle.sheet.specs.declared.row.Condition.{Condition}
 use Rattle.sheet.specs.declared.row.Row.{Row}
 use Rattle.sheet.specs.declared.row.Row.TheVariants.{Keep as keep_row, Call as call_row, Send as send_row}
-use Rattle.sheet.specs.Parts.{Read, strange, one_number, some_inputs}
+use Rattle.sheet.specs.Parts.{Read, one_number, some_inputs}
 use Rattle.sheet.specs.Sheets.{condition_at, keep_fields, call_fields, send_fields, row_from}
 use Rattle.sheet.specs.Forms.{condition_numbers}
-use Rattle.sheet.specs.Borrowed.{RowForm, call_form, send_form, keep_form, condition_in, decoded, part, condition_bytes, keep_from, call_from, send_from, borrowed_from}
+use Rattle.sheet.specs.Borrowed.{RowForm, call_form, send_form, condition_in, decoded, part, keep_from, call_from, send_from, borrowed_from}
 use Rattle.sheet.proofs.Conditions.{condition-reads, condition-back}
 
 -- What was read with its condition as bytes is, once decoded, what is read at once.

@@ -1,23 +1,21 @@
 -- Bytes read as a sheet exactly when they are its byte form.
-use Rattle.std.proofs.Common.{◌≡◌, ℕ, zero, suc, ◌+◌, ◌-◌, ◌^◌, ◌<◌, ◌≤◌, Bool, true, false, cond, ltb, ◌⊎◌, List, [], ◌∷◌, ◌++◌, length, take, drop, Ok, Err, Result, sym, refl, ap, ◌∙◌, subst, inl, inr, append-nil, zero-add, arith, length-append, length-drop}
+use Rattle.std.proofs.Common.{◌≡◌, ℕ, ◌+◌, ◌<◌, ◌≤◌, Bool, true, false, cond, ltb, List, [], ◌++◌, length, drop, Ok, Err, Result, sym, refl, ap, ◌∙◌, subst, inl, inr, append-nil, arith}
 use Rattle.std.proofs.lemmas.List.{drop_all}
-use Rattle.std.proofs.lemmas.Bool.{cases_lt, lt-ltb, le-ltb, cases_Bool}
+use Rattle.std.proofs.lemmas.Bool.{cases_lt, lt-ltb, le-ltb}
 use Rattle.fault.specs.declared.refusal.Fault.{Fault}
-use Rattle.fault.specs.declared.refusal.Refusal.TheVariants.{Trailing}
 use Rattle.fault.specs.declared.place.Offset.{Offset}
 use Rattle.fault.specs.declared.place.BytesPlace.{BytesPlace}
-use Rattle.fault.specs.declared.place.BytesPlace.TheVariants.{Offset as at_offset}
 use Rattle.wire.specs.Numbers.{number_at, after_number}
-use Rattle.wire.specs.Bytes.{spelled, Bytes}
-use Rattle.wire.proofs.Spelled.{Reads, reads_more, reads-parts, reads-spelled, spelled-reads, Words}
+use Rattle.wire.specs.Bytes.{Bytes}
+use Rattle.wire.proofs.Spelled.{Reads, reads_more, reads-parts, reads-spelled, spelled-reads}
 use Rattle.sheet.specs.declared.row.Head.{Head}
 use Rattle.sheet.specs.declared.row.Row.{Row}
 use Rattle.sheet.specs.Rows.{head_within}
-use Rattle.sheet.specs.Sheets.{head_from, rows_from, up_then, raised, too_short, head_outside, sheet_in}
+use Rattle.sheet.specs.Sheets.{head_from, rows_from, up_then, sheet_in}
 use Rattle.sheet.specs.Forms.{IsSheet, head_numbers, rows_numbers, sheet_numbers, sheet_form}
 use Rattle.sheet.specs.Theorems.{ReadExactly, OneSheetForm}
-use Rattle.sheet.proofs.Follow.{never, ok_same, Stops, stops-later}
-use Rattle.sheet.proofs.RowReaders.{head-reads, head-back, head-stops, rows-read, rows_back, rows-stop}
+use Rattle.sheet.proofs.Follow.{never, ok_same}
+use Rattle.sheet.proofs.RowReaders.{head-reads, head-back, rows-read, rows_back}
 
 pub up_by : {A B : Type 0} {C : Type 0} (r : Result A (Fault Offset)) (k : A → Result B (Fault BytesPlace)) (z : B) → up_then r k ≡ Ok z
     → ((a : A) → r ≡ Ok a → k a ≡ Ok z → C) → C

@@ -5,7 +5,7 @@ use Rattle.fault.specs.declared.refusal.Refusal.TheVariants.{Strange}
 use Rattle.fault.specs.declared.place.Offset.{Offset}
 use Rattle.wire.specs.Numbers.{and_then, fault_at}
 use Rattle.wire.proofs.Spelled.{Reads, reads_more}
-use Rattle.sheet.specs.Parts.{Read, one_number}
+use Rattle.sheet.specs.Parts.{one_number}
 
 pub never : {A F : Type 0} {a : A} {f : F} → ◌≡◌ {A = Result A F} (Err f) (Ok a) → ⊥
 never e = let z : ◌≡◌ {A = ℕ} 0 1 = cc in omega arith

@@ -1,5 +1,5 @@
 -- What the offset of a fault says of the bytes before and after it.
-use Rattle.std.proofs.Common.{◌≡◌, ℕ, zero, suc, ◌+◌, ◌-◌, ◌^◌, ◌<◌, ◌≤◌, Bool, true, false, cond, ◌⊎◌, List, [], ◌∷◌, ◌++◌, length, take, drop, Ok, Err, Result, sym, refl, ap, ◌∙◌, subst, inl, inr, zero-add, arith}
+use Rattle.std.proofs.Common.{◌≡◌, ℕ, ◌^◌, ◌<◌, true, ◌⊎◌, List, ◌++◌, length, take, drop, Ok, Err, Result, sym, refl, ap, ◌∙◌, subst, inl, inr, arith}
 use Rattle.std.proofs.lemmas.List.{take_at}
 use Rattle.fault.specs.declared.refusal.Fault.{Fault}
 use Rattle.fault.specs.declared.refusal.Refusal.{Refusal}
@@ -17,7 +17,7 @@ use Rattle.sheet.specs.declared.row.Row.{Row}
 use Rattle.sheet.specs.Rows.{head_within}
 use Rattle.sheet.specs.Sheets.{head_from, rows_from, up_then, raised, sheet_in}
 use Rattle.sheet.specs.Forms.{IsSheet, head_numbers, sheet_numbers, sheet_form}
-use Rattle.sheet.specs.Theorems.{OffsetsTell, OffsetsAlwaysTell, WholeBefore, Unfinished, NoNumber, offset_fault}
+use Rattle.sheet.specs.Theorems.{OffsetsAlwaysTell, WholeBefore, Unfinished, NoNumber, offset_fault}
 use Rattle.sheet.proofs.Follow.{never-err, Stops, stops-later}
 use Rattle.sheet.proofs.RowReaders.{head-reads, head-stops, rows-stop}
 use Rattle.sheet.proofs.Exact.{by_less, by-test, sheet-numbers}

@@ -1,22 +1,20 @@
 -- The readers of a sheet's parts, over the numbers of an input: each reads just the numbers that the part
 -- is written as, and stops after whole numbers.
-use Rattle.std.proofs.Common.{◌≡◌, ℕ, zero, suc, Bool, true, false, cond, eqb, ◌⊎◌, List, [], ◌∷◌, ◌++◌, length, Ok, Err, Result, sym, refl, ap, ◌∙◌, subst, inl, inr, arith}
+use Rattle.std.proofs.Common.{◌≡◌, ℕ, cond, eqb, List, [], ◌∷◌, Ok, Err, Result, refl, ap, ◌∙◌, inl, inr}
 use Rattle.std.proofs.lemmas.Bool.{cases_eq, eq-eqb, ne_eqb}
 use Rattle.fault.specs.declared.refusal.Fault.{Fault}
-use Rattle.fault.specs.declared.refusal.Refusal.TheVariants.{Strange}
 use Rattle.fault.specs.declared.place.Offset.{Offset}
-use Rattle.wire.specs.Numbers.{and_then, fault_at}
-use Rattle.wire.proofs.Spelled.{Reads, reads_more, reads-parts}
+use Rattle.wire.proofs.Spelled.{Reads, reads_more}
 use Rattle.sheet.specs.declared.row.Relation.{Relation}
 use Rattle.sheet.specs.declared.row.Relation.TheVariants.{Equal, Unequal}
 use Rattle.sheet.specs.declared.row.Inputs.{Inputs}
 use Rattle.sheet.specs.declared.row.Inputs.TheVariants.{Nothing, Single, Pair}
 use Rattle.sheet.specs.declared.row.Test.{Test}
 use Rattle.sheet.specs.Rows.{relation_code}
-use Rattle.sheet.specs.Parts.{Read, strange, one_number, one_relation, some_inputs, inputs_numbers}
+use Rattle.sheet.specs.Parts.{one_number, one_relation, some_inputs, inputs_numbers}
 use Rattle.sheet.specs.Sheets.{one_test}
 use Rattle.sheet.specs.Forms.{test_numbers}
-use Rattle.sheet.proofs.Follow.{never, never-err, ok_same, at_same, then_by, then-err, then_to, number_ok, number-to, number_step, Fails, Stops, stops-here, stops-strange, stops-later, number-stops, number-then-stops}
+use Rattle.sheet.proofs.Follow.{never, never-err, at_same, then_by, then-err, then_to, number-to, number_step, Stops, stops-here, stops-strange, stops-later, number-stops, number-then-stops}
 
 -- A choice by the value of a number: the branch that was taken.
 pub choose : {B : Type 0} {C : Type 0} (n k : ℕ) (x y : B) (z : B) → cond (eqb n k) x y ≡ z → (n ≡ k → x ≡ z → C) → (y ≡ z → C) → C

@@ -1,20 +1,17 @@
 -- The readers of rows and heads: each reads just the numbers that the part is written as, and stops after
 -- whole numbers.
-use Rattle.std.proofs.Common.{◌≡◌, ℕ, zero, suc, Bool, true, false, cond, eqb, ◌⊎◌, List, [], ◌∷◌, ◌++◌, length, Ok, Err, Result, sym, refl, ap, ◌∙◌, subst, inl, inr, append_assoc, append-nil}
+use Rattle.std.proofs.Common.{◌≡◌, ℕ, zero, suc, List, [], ◌∷◌, ◌++◌, length, Ok, Err, Result, refl, ap, ◌∙◌}
 use Rattle.fault.specs.declared.refusal.Fault.{Fault}
 use Rattle.fault.specs.declared.place.Offset.{Offset}
 use Rattle.wire.specs.Numbers.{and_then}
 use Rattle.wire.proofs.Spelled.{Reads, reads_more, reads-parts}
 use Rattle.sheet.specs.declared.row.Head.{Head}
-use Rattle.sheet.specs.declared.row.Test.{Test}
-use Rattle.sheet.specs.declared.row.Condition.{Condition}
-use Rattle.sheet.specs.declared.row.Condition.TheVariants.{Always, One, Two, Three, Four}
 use Rattle.sheet.specs.declared.row.Row.{Row}
 use Rattle.sheet.specs.declared.row.Row.TheVariants.{Keep as keep_row, Call as call_row, Send as send_row}
 use Rattle.sheet.specs.Parts.{Read, one_number, some_inputs, inputs_numbers}
-use Rattle.sheet.specs.Sheets.{one_test, one_condition, keep_fields, call_fields, send_fields, one_row, some_rows, head_fields, one_head}
-use Rattle.sheet.specs.Forms.{test_numbers, tests_numbers, condition_numbers, row_numbers, rows_numbers, head_numbers}
-use Rattle.sheet.proofs.Follow.{never, never-err, ok_same, at_same, then_by, then-err, then_to, number_ok, number-to, number_step, Stops, stops-here, stops-strange, stops-later, number-stops, number-then-stops}
+use Rattle.sheet.specs.Sheets.{one_condition, keep_fields, call_fields, send_fields, one_row, some_rows, head_fields, one_head}
+use Rattle.sheet.specs.Forms.{condition_numbers, row_numbers, rows_numbers, head_numbers}
+use Rattle.sheet.proofs.Follow.{never, never-err, at_same, then_by, then-err, then_to, number-to, number_step, Stops, stops-here, stops-strange, stops-later, number-stops, number-then-stops}
 use Rattle.sheet.proofs.Readers.{choose, err-same, inputs-reads, inputs-back, inputs-stop}
 use Rattle.sheet.proofs.Conditions.{condition-reads, condition-back, condition-stops}
 

@@ -1,14 +1,14 @@
 -- A sheet that is written is its byte form, and is read back.
-use Rattle.std.proofs.Common.{◌≡◌, ℕ, ◌+◌, ◌*◌, ◌<◌, ◌≤◌, Bool, true, false, cond, ◌&&◌, eqb, ltb, List, [], ◌∷◌, ◌++◌, length, take, drop, Ok, Err, Result, sym, refl, ap, ◌∙◌, subst, append_assoc, zero-add, arith, length-append}
+use Rattle.std.proofs.Common.{◌≡◌, ℕ, ◌+◌, ◌<◌, ◌≤◌, Bool, true, cond, ltb, List, ◌++◌, length, take, drop, Ok, sym, refl, ap, ◌∙◌, zero-add, arith, length-append}
 use Rattle.std.proofs.lemmas.List.{take_at}
 use Rattle.std.proofs.lemmas.Bool.{le-ltb, lt-ltb, eq-eqb}
 use Rattle.wire.specs.Bytes.{spelled, placed}
-use Rattle.wire.proofs.Laid.{spelled-append, placed-two, placed-room}
+use Rattle.wire.proofs.Laid.{spelled-append, placed-two}
 use Rattle.sheet.specs.declared.row.Head.{Head}
 use Rattle.sheet.specs.declared.row.Row.{Row}
 use Rattle.sheet.specs.Rows.{head_within}
 use Rattle.sheet.specs.Sheets.{sheet_in, too_short, head_outside}
-use Rattle.sheet.specs.Forms.{IsSheet, head_numbers, rows_numbers, sheet_form}
+use Rattle.sheet.specs.Forms.{head_numbers, rows_numbers, sheet_form}
 use Rattle.sheet.specs.Written.{describes, written_end, written_bytes, WrittenBack}
 use Rattle.sheet.proofs.Exact.{form-read}
 

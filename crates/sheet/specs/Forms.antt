@@ -1,6 +1,6 @@
 use Rattle.std.specs.Prelude.{◌≡◌, ℕ, ◌^◌, ◌<◌, true, List, [], ◌∷◌, ◌++◌, length}
 use Rattle.wire.specs.Bytes.{spelled}
-use Rattle.std.specs.List.{AllByRecursion as All}
+use Rattle.std.specs.List.{AllByRecursion}
 use Rattle.sheet.specs.declared.row.Head.{Head}
 use Rattle.sheet.specs.declared.row.Test.{Test}
 use Rattle.sheet.specs.declared.row.Condition.{Condition}
@@ -47,4 +47,4 @@ sheet_form h rows = spelled (sheet_numbers h rows)
 pub record IsSheet (h : Head) (rows : List Row) : Type 0 where
   pub within : head_within h ≡ true
   pub counts : h.rows ≡ length rows
-  pub words : All (λ n. n < 2 ^ 32) (sheet_numbers h rows)
+  pub words : AllByRecursion (λ n. n < 2 ^ 32) (sheet_numbers h rows)

@@ -1,5 +1,5 @@
-use Rattle.std.specs.Prelude.{◌≡◌, ℕ, ◌+◌, ◌^◌, ◌<◌, ◌≤◌, List, [], ◌∷◌, ◌++◌, length, take, drop, Ok, Err, ◌≢◌}
-use Rattle.std.specs.List.{AllByRecursion as All}
+use Rattle.std.specs.Prelude.{◌≡◌, ℕ, ◌^◌, ◌<◌, ◌≤◌, List, ◌++◌, length, take, drop, Ok, Err, ◌≢◌}
+use Rattle.std.specs.List.{AllByRecursion}
 use Rattle.fault.specs.declared.refusal.Fault.{Fault}
 use Rattle.fault.specs.declared.refusal.Refusal.{Refusal}
 use Rattle.fault.specs.declared.refusal.Refusal.TheVariants.{EndsEarly, NotShortest, Strange, Trailing}
@@ -34,7 +34,7 @@ WholeBefore bs o = (ns : List ℕ) × (take o bs ≡ spelled ns)
 
 -- Bytes that begin a number and end before it does: fewer than five, each of which announces another.
 abbrev pub Unfinished : List ℕ → Type 0
-Unfinished xs = (length xs < 5) × All (λ b. 128 ≤ b) xs
+Unfinished xs = (length xs < 5) × AllByRecursion (λ b. 128 ≤ b) xs
 
 -- Bytes that no number begins with, whatever follows them.
 abbrev pub NoNumber : List ℕ → Type 0

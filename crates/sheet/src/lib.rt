@@ -1,3 +1,5 @@
+#![tactic(auto)]
+
 mod borrowed;
 mod parts;
 mod reading;

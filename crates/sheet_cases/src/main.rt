@@ -1,3 +1,5 @@
+#![tactic(auto)]
+
 // Judges the sheets in the file `cases`, one after the other: each is its length, two bytes, and its bytes.
 // A line for each: `accepted` or its refusal; `differs` where it is read and not written back unchanged.
 use cases::next_part;

@@ -1,3 +1,5 @@
+#![tactic(auto)]
+
 // How long a tick takes. With the argument `dense`, `sparse` or `idle` it rehearses 16,777,215 ticks of such a sheet and
 // prints the nanoseconds a tick; without arguments it prints nothing.
 use anyhow::anyhow;

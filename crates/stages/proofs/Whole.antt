@@ -1,4 +1,4 @@
-use Rattle.std.proofs.Common.{◌≡◌, ℕ, zero, suc, ◌+◌, Bool, true, false, cond, ltb, List, [], ◌∷◌, ◌++◌, length, take, drop, IfOk, Ok, Err, Result, sym, refl, ap, ◌∙◌, arith, MatchResult}
+use Rattle.std.proofs.Common.{◌≡◌, ℕ, zero, suc, Bool, true, false, cond, ltb, List, ◌∷◌, ◌++◌, length, take, drop, IfOk, Ok, Err, Result, refl, ap, ◌∙◌, MatchResult}
 use Rattle.std.proofs.lemmas.List.{take_at, drop_at}
 use Rattle.fault.specs.declared.refusal.Fault.{Fault}
 use Rattle.fault.specs.declared.place.Offset.{Offset}
@@ -25,19 +25,19 @@ cond-made P true x y p q = p
 cond-made P false x y p q = q
 
 -- As many rows are read as the head says.
-one_more : (n : ℕ) (x : Row) (q : Result (List Row × ℕ) (Fault Offset)) → IfOk {X = List Row × ℕ} q (λ p. length p.0 ≡ n)
-    → IfOk {X = List Row × ℕ} (and_then q (λ rs. Ok (x ∷ rs.0, rs.1))) (λ p. length p.0 ≡ suc n)
+one_more : (n : ℕ) (x : Row) (q : Result (List Row × ℕ) (Fault Offset)) → IfOk {T = List Row × ℕ} q (λ p. length p.0 ≡ n)
+    → IfOk {T = List Row × ℕ} (and_then q (λ rs. Ok (x ∷ rs.0, rs.1))) (λ p. length p.0 ≡ suc n)
 one_more n x (Ok rs) e = ap suc e
 one_more n x (Err f) e = tt
 
-rows-count : (num : ℕ → Result ℕ (Fault Offset)) (aft : ℕ → ℕ) (n pos : ℕ) → IfOk {X = List Row × ℕ} (some_rows num aft n pos) (λ p. length p.0 ≡ n)
+rows-count : (num : ℕ → Result ℕ (Fault Offset)) (aft : ℕ → ℕ) (n pos : ℕ) → IfOk {T = List Row × ℕ} (some_rows num aft n pos) (λ p. length p.0 ≡ n)
 rows-count num aft zero pos = refl
 rows-count num aft (suc n) pos =
     then-made (λ p. length p.0 ≡ suc n) (one_row num aft pos) _
     (λ r. one_more n r.0 (some_rows num aft n r.1) (rows-count num aft n r.1))
 
-counted : (bs : List ℕ) (f : ℕ → Fault BytesPlace) (h : Head) (q : Result (List Row × ℕ) (Fault Offset)) → IfOk {X = List Row × ℕ} q (λ p. length p.0 ≡ h.rows)
-    → IfOk {X = Head × List Row} (up_then q (λ rs. cond (ltb rs.1 (length bs)) (Err (f rs.1)) (Ok (h, rs.0)))) (λ s. length s.1 ≡ s.0.rows)
+counted : (bs : List ℕ) (f : ℕ → Fault BytesPlace) (h : Head) (q : Result (List Row × ℕ) (Fault Offset)) → IfOk {T = List Row × ℕ} q (λ p. length p.0 ≡ h.rows)
+    → IfOk {T = Head × List Row} (up_then q (λ rs. cond (ltb rs.1 (length bs)) (Err (f rs.1)) (Ok (h, rs.0)))) (λ s. length s.1 ≡ s.0.rows)
 counted bs f h (Ok rs) e = cond-made (λ s. length s.1 ≡ s.0.rows) (ltb rs.1 (length bs)) (Err (f rs.1)) (Ok (h, rs.0)) tt e
 counted bs f h (Err g) e = tt
 

@@ -1,3 +1,5 @@
+#![tactic(auto)]
+
 mod stage;
 
 pub use stage::{Accepted, Draft};

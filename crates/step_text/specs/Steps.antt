@@ -1,5 +1,4 @@
-use Rattle.std.specs.Prelude.{ℕ, ◌%◌, cond, eqb, List, [], ◌∷◌, ◌++◌, decimal}
-use Rattle.sheet.specs.declared.row.Relation.{Relation}
+use Rattle.std.specs.Prelude.{ℕ, List, [], ◌∷◌, ◌++◌, decimal}
 use Rattle.netcode.specs.declared.step.Step.{Step}
 use Rattle.netcode.specs.declared.step.Step.TheVariants.{Test, Future, Halt, Call, Send, Receive, Keep, Clear, Give}
 use Rattle.text.specs.Rows.{three, five, relation_text, inputs_text}

@@ -1,3 +1,5 @@
+#![tactic(auto)]
+
 mod step;
 
 pub use step::{LineProgram, StepLine, WorkProgram};

@@ -1,3 +1,5 @@
+#![tactic(auto)]
+
 mod listeners;
 mod refused;
 mod row;

@@ -1,7 +1,7 @@
 -- A sheet that keeps the rules of acceptance is a schedule that keeps its own.
-use Rattle.std.proofs.Common.{◌≡◌, ℕ, zero, suc, ◌+◌, ◌-◌, ◌*◌, ◌/◌, ◌%◌, ◌^◌, ◌<◌, ◌≤◌, Bool, true, false, cond, not, ◌&&◌, ◌||◌, eqb, ltb, ◌⊎◌, List, [], ◌∷◌, ◌++◌, length, get_or, take, sym, refl, ap, ◌∙◌, subst, inl, inr, arith}
-use Rattle.std.specs.List.{AllByRecursion as All}
-use Rattle.std.proofs.lemmas.Bool.{cases_Bool, cases_lt, cases_order, and_parts, ltb-true, eqb-true, eq-eqb, ne_eqb, false≢true, true≢false, both_ways}
+use Rattle.std.proofs.Common.{◌≡◌, ℕ, zero, suc, ◌+◌, ◌-◌, ◌<◌, ◌≤◌, true, false, not, ◌&&◌, ltb, ◌⊎◌, List, [], ◌∷◌, ◌++◌, length, take, sym, refl, ap, ◌∙◌, subst, inl, inr, arith}
+use Rattle.std.specs.List.{AllByRecursion}
+use Rattle.std.proofs.lemmas.Bool.{cases_Bool, cases_lt, cases_order, and_parts, ltb-true, eqb-true, eq-eqb, ne_eqb, false≢true, true≢false}
 use Rattle.sheet.specs.declared.row.Head.{Head}
 use Rattle.sheet.specs.declared.row.Relation.{Relation}
 use Rattle.sheet.specs.declared.row.Relation.TheVariants.{Equal, Unequal}
@@ -13,10 +13,9 @@ use Rattle.sheet.specs.declared.row.Inputs.TheVariants.{Nothing, Single, Pair}
 use Rattle.sheet.specs.declared.row.Row.{Row}
 use Rattle.sheet.specs.declared.row.Row.TheVariants.{Keep as keep_row, Call as call_row, Send as send_row}
 use Rattle.sheet.specs.Rows.{tests_of, inputs_of, row_at, test_at, head_within}
-use Rattle.judge.specs.Verdict.{is_keep, listens}
-use Rattle.judge.specs.Rules.{Any, Listens, FieldsWithin, IsKeep, Placed, OpposedWords, Opposed, Exclude, SingleWriter, NoOverlap, Among, Provides, Available, TestsAvailable, ReadsAvailable, RowRules, Rules}
+use Rattle.judge.specs.Verdict.{is_keep}
+use Rattle.judge.specs.Rules.{Any, FieldsWithin, IsKeep, Placed, OpposedWords, Opposed, Exclude, SingleWriter, NoOverlap, Among, Provides, Available, TestsAvailable, ReadsAvailable, Rules}
 use Rattle.schedule.specs.Rows.{Test as Asked, Row as Planned, ends, reaches, Mem, Apart, Excludes, Within, Concerns}
-use Rattle.schedule.specs.Machine.{Keep as Kept}
 use Rattle.schedule.specs.Lawful.{Limits}
 use Rattle.schedule.specs.Promise.{Available as Supplied, Judged}
 use Rattle.translate.specs.Translation.{tests_in, end_of}
@@ -74,7 +73,7 @@ among [] ts a t m = absurd m
 among (s ∷ ss) ts (x, a) t (inl e) = subst (λ (z : Asked). Mem z (as_tests ts)) (sym e) (any_same s ts x)
 among (s ∷ ss) ts (x, a) t (inr m) = among ss ts a t m
 
-mem-tests : (P : ℕ → Type 0) (ts : List Test) → All (λ t. P t.variable) ts → (t : Asked) → Mem t (as_tests ts) → P t.var
+mem-tests : (P : ℕ → Type 0) (ts : List Test) → AllByRecursion (λ t. P t.variable) ts → (t : Asked) → Mem t (as_tests ts) → P t.var
 mem-tests P [] a t m = absurd m
 mem-tests P (u ∷ ts) (x, a) t (inl e) = subst (λ (z : Asked). P z.var) (sym e) x
 mem-tests P (u ∷ ts) (x, a) t (inr m) = mem-tests P ts a t m
@@ -114,7 +113,7 @@ pub record Fields (h : Head) (r : Planned) : Type 0 where
   pub listening : (s : ℕ) → r.listeners s ≡ true → s < h.stations
   pub elsewhere : r.listeners r.st ≡ false
 
-call-inputs : (v : ℕ) (i : Inputs) → All (λ x. x < v) (inputs_of i)
+call-inputs : (v : ℕ) (i : Inputs) → AllByRecursion (λ x. x < v) (inputs_of i)
     → (input_count i ≤ 2) × (0 < input_count i → first_input i < v) × (1 < input_count i → second_input i < v)
 call-inputs v Nothing a = (omega arith, λ l. absurd (omega arith), λ l. absurd (omega arith))
 call-inputs v (Single x) a = (omega arith, λ l. a.0, λ l. absurd (omega arith))
@@ -240,7 +239,7 @@ reads_first : (rows : List Row) (r : ℕ) (row : Row) → is_keep row ≡ false 
 reads_first rows r (keep_row k) e v l = absurd (true≢false e)
 reads_first rows r (call_row c) e v l = go c.inputs v.1 l
   where
-    go : (i : Inputs) → All (λ x. Available rows r c.station x c.date (tests_of c.condition)) (inputs_of i) → 0 < input_count i → Available rows r c.station (first_input i) c.date (tests_of c.condition)
+    go : (i : Inputs) → AllByRecursion (λ x. Available rows r c.station x c.date (tests_of c.condition)) (inputs_of i) → 0 < input_count i → Available rows r c.station (first_input i) c.date (tests_of c.condition)
     go Nothing a l = absurd (omega arith)
     go (Single x) a l = a.0
     go (Pair x y) a l = a.0
@@ -251,7 +250,7 @@ reads_second : (rows : List Row) (r : ℕ) (row : Row) → is_keep row ≡ false
 reads_second rows r (keep_row k) e v l = absurd (true≢false e)
 reads_second rows r (call_row c) e v l = go c.inputs v.1 l
   where
-    go : (i : Inputs) → All (λ x. Available rows r c.station x c.date (tests_of c.condition)) (inputs_of i) → 1 < input_count i → Available rows r c.station (second_input i) c.date (tests_of c.condition)
+    go : (i : Inputs) → AllByRecursion (λ x. Available rows r c.station x c.date (tests_of c.condition)) (inputs_of i) → 1 < input_count i → Available rows r c.station (second_input i) c.date (tests_of c.condition)
     go Nothing a l = absurd (omega arith)
     go (Single x) a l = absurd (omega arith)
     go (Pair x y) a l = a.1.0

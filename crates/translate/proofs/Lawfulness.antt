@@ -13,7 +13,6 @@ use Rattle.netcode.specs.Steps.{step_in, no_step}
 use Rattle.netcode.specs.Layouts.{program_count, station_of}
 use Rattle.netcode.specs.Laws.{InputsWithin, Within, Lawful, program_in, LawfulBefore}
 use Rattle.netcode.proofs.Verdicts.{rules-stand}
-use Rattle.schedule.specs.Rows.{Row as Planned}
 use Rattle.schedule.specs.Program.{Step as PlannedStep}
 use Rattle.schedule.specs.Machine.{program}
 use Rattle.schedule.specs.Lawful.{ActOk, StepOk, ProgramOk}

@@ -1,12 +1,12 @@
 -- The lengths of a program's parts, and where its blocks begin.
-use Rattle.std.proofs.Common.{◌≡◌, ℕ, zero, suc, ◌+◌, ◌-◌, ◌*◌, ◌<◌, ◌≤◌, min, Bool, true, false, cond, ◌&&◌, ◌||◌, eqb, ltb, ◌⊎◌, List, [], ◌∷◌, ◌++◌, length, sym, refl, ap, ◌∙◌, subst, ap₂, inl, inr, append-nil, add-zero, add-suc, zero-add, arith, length-append}
-use Rattle.std.proofs.lemmas.Bool.{cases_Bool, cases_eq, cases_lt, cond-true, cond-false, both_ways, eq-eqb, ne_eqb}
+use Rattle.std.proofs.Common.{◌≡◌, ℕ, zero, suc, ◌+◌, ◌-◌, ◌*◌, ◌<◌, ◌≤◌, min, Bool, true, false, cond, eqb, ◌⊎◌, List, [], ◌∷◌, ◌++◌, length, sym, refl, ap, ◌∙◌, ap₂, inl, inr, append-nil, add-zero, add-suc, arith, length-append}
+use Rattle.std.proofs.lemmas.Bool.{cases_Bool, cond-true, cond-false, eq-eqb, ne_eqb}
 use Rattle.sheet.specs.declared.row.Test.{Test}
 use Rattle.sheet.specs.declared.row.Row.{Row}
 use Rattle.sheet.specs.Rows.{row_at}
 use Rattle.netcode.specs.declared.step.Step.{Step}
 use Rattle.netcode.specs.declared.step.Step.TheVariants.{Halt, Clear}
-use Rattle.translate.specs.Translation.{tests_in, end_of, is_line, act, keep_step, give_step, is_due, is_date, first_date, row_length, rows_length, block_length, address, wait_for, tests_code, row_code, rows_code, block_code, code_to, keeps_to, gives_to, preparation, opening_length, opening, program_code}
+use Rattle.translate.specs.Translation.{tests_in, end_of, is_line, act, keep_step, give_step, is_due, is_date, first_date, row_length, rows_length, address, wait_for, tests_code, row_code, rows_code, code_to, keeps_to, gives_to, preparation, opening_length, opening, program_code}
 use Rattle.translate.proofs.Dates.{first-here, first-skip, first-least, first-none-before, rows-push, some-row}
 
 module _ (cycle : ℕ) (rows : List Row) (p : ℕ) where

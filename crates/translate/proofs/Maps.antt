@@ -1,23 +1,23 @@
 -- The programs of a sheet are those of its schedule, step by step.
-use Rattle.std.proofs.Common.{◌≡◌, ℕ, zero, suc, ◌+◌, ◌-◌, ◌*◌, ◌/◌, ◌%◌, ◌<◌, ◌≤◌, Bool, true, false, cond, not, ◌&&◌, ◌||◌, eqb, ltb, ◌⊎◌, List, [], ◌∷◌, ◌++◌, map, length, sym, refl, ap, ◌∙◌, subst, ap₂, inl, inr, append-nil, add-zero, add-suc, zero-add, arith}
-use Rattle.std.proofs.lemmas.Bool.{cases_Bool, cases_eq, cond-true, cond-false, both_ways, eq-eqb, ne_eqb, false≢true, true≢false}
+use Rattle.std.proofs.Common.{◌≡◌, ℕ, zero, suc, ◌+◌, ◌-◌, ◌/◌, ◌%◌, ◌<◌, ◌≤◌, Bool, true, false, cond, not, ◌&&◌, ◌||◌, eqb, ltb, ◌⊎◌, List, [], ◌∷◌, ◌++◌, map, length, sym, refl, ap, ◌∙◌, ap₂, inl, inr, append-nil, add-zero, add-suc, zero-add, arith}
+use Rattle.std.proofs.lemmas.Bool.{cases_Bool, cases_eq, cond-true, cond-false, eq-eqb, ne_eqb, false≢true, true≢false}
 use Rattle.std.proofs.lemmas.List.{map-append, length-map}
 use Rattle.sheet.specs.declared.row.Relation.{Relation}
 use Rattle.sheet.specs.declared.row.Relation.TheVariants.{Equal, Unequal}
 use Rattle.sheet.specs.declared.row.Test.{Test}
 use Rattle.sheet.specs.declared.row.Row.{Row}
 use Rattle.sheet.specs.declared.row.Row.TheVariants.{Keep as keep_row, Call as call_row, Send as send_row}
-use Rattle.sheet.specs.Rows.{tests_of, row_at}
+use Rattle.sheet.specs.Rows.{row_at}
 use Rattle.judge.specs.Verdict.{is_keep, listens}
 use Rattle.netcode.specs.declared.step.Step.{Step}
-use Rattle.netcode.specs.declared.step.Step.TheVariants.{Test as test_step, Future, Halt, Call, Send, Receive, Keep, Clear, Give}
+use Rattle.netcode.specs.declared.step.Step.TheVariants.{Test as test_step, Future, Halt, Keep, Clear, Give}
 use Rattle.netcode.specs.Layouts.{line_program, station_of}
-use Rattle.schedule.specs.Rows.{Test as Asked, Row as Planned, ends}
-use Rattle.schedule.specs.Program.{Step as PlannedStep, Share, row_len, due, rows_len, is_date as planned_date, search_date, wake, addr, target, test_code, row_code as planned_row, tail_code as planned_tail, rows_code as planned_rows, code_to as planned_to, open_len, opening as planned_opening}
-use Rattle.schedule.specs.Machine.{Keep as Kept, is_line as planned_line, mine, share_of, keep_code, give_code, head_of, program}
-use Rattle.translate.specs.Schedules.{keep_count, is_equal, as_test, as_tests, as_row, as_keep, rows_of, row_total, keeps_of, relation_from, concrete}
+use Rattle.schedule.specs.Rows.{Test as Asked, ends}
+use Rattle.schedule.specs.Program.{Step as PlannedStep, Share, row_len, due, rows_len, is_date as planned_date, search_date, wake, addr, target, test_code, row_code as planned_row, rows_code as planned_rows, code_to as planned_to, open_len, opening as planned_opening}
+use Rattle.schedule.specs.Machine.{is_line as planned_line, mine, share_of, keep_code, give_code, head_of, program}
+use Rattle.translate.specs.Schedules.{keep_count, is_equal, as_tests, as_row, as_keep, rows_of, row_total, keeps_of, relation_from, concrete}
 use Rattle.translate.specs.Ordered.{Ordered}
-use Rattle.translate.specs.Translation.{tests_in, date_of, end_of, is_line, belongs, act, keep_step, give_step, is_due, some_due, is_date, first_among, first_date, row_length, rows_length, block_length, address, wait_for, tests_code, row_code, tail_code, rows_code, block_code, code_to, keeps_to, gives_to, preparation, opening_length, opening, program_code}
+use Rattle.translate.specs.Translation.{tests_in, date_of, end_of, is_line, belongs, act, keep_step, give_step, is_due, is_date, first_date, row_length, rows_length, address, wait_for, tests_code, row_code, rows_code, block_code, code_to, keeps_to, gives_to, preparation, opening_length, opening, program_code}
 use Rattle.translate.proofs.Dates.{first-here, first-skip, first-end, date-from-steps}
 
 -- The keep rows at the front.

@@ -1,5 +1,5 @@
 -- What laying the programs of a sheet answers and leaves.
-use Rattle.std.proofs.Common.{◌≡◌, ℕ, ◌<◌, ◌≤◌, Bool, true, false, cond, ltb, ◌⊎◌, List, length, Ok, Err, Result, sym, refl, ap, ◌∙◌, ap₂, inl, inr, arith, MatchResult}
+use Rattle.std.proofs.Common.{◌≡◌, ℕ, ◌<◌, ◌≤◌, cond, ltb, ◌⊎◌, List, length, Ok, Err, Result, refl, ap, ◌∙◌, ap₂, inl, inr, MatchResult}
 use Rattle.std.proofs.lemmas.Bool.{cases_lt, lt-ltb, le-ltb, cond-true, cond-false}
 use Rattle.fault.specs.declared.place.BytesPlace.{BytesPlace}
 use Rattle.fault.specs.declared.refusal.Fault.{Fault}

@@ -1,7 +1,7 @@
 -- A unit that is woken does the turn of its date.
-use Rattle.std.proofs.Common.{◌≡◌, ℕ, zero, suc, ◌+◌, ◌-◌, ◌*◌, ◌/◌, ◌%◌, ◌<◌, ◌≤◌, Bool, true, false, cond, not, ◌&&◌, ◌||◌, eqb, ltb, ◌⊎◌, List, [], ◌∷◌, ◌++◌, map, length, get_or, Some, None, Option, sym, refl, ap, ◌∙◌, subst, ap₂, inl, inr, append_assoc, append-nil, arith}
-use Rattle.std.specs.List.{AllByRecursion as All}
-use Rattle.std.proofs.lemmas.Bool.{cases_Bool, cases_lt, cases_eq, cond-true, cond-false, and_parts, and_from, or_cases, or_left, or_right, eqb-true, eqb-false, eq-eqb, ne_eqb, lt-ltb, not-true, not_from_false, false≢true, true≢false, both_ways}
+use Rattle.std.proofs.Common.{◌≡◌, ℕ, zero, suc, ◌+◌, ◌-◌, ◌%◌, ◌<◌, ◌≤◌, Bool, true, false, cond, not, ◌&&◌, eqb, ltb, ◌⊎◌, List, [], ◌∷◌, ◌++◌, map, length, get_or, Some, Option, sym, refl, ap, ◌∙◌, subst, ap₂, inl, inr, append_assoc, append-nil, arith}
+use Rattle.std.specs.List.{AllByRecursion}
+use Rattle.std.proofs.lemmas.Bool.{cases_Bool, cases_lt, cases_eq, cond-true, cond-false, and_parts, and_from, or_cases, or_left, or_right, eqb-true, eqb-false, eq-eqb, ne_eqb, lt-ltb, not-true, not_from_false, false≢true}
 use Rattle.std.proofs.lemmas.List.{length-map}
 use Rattle.sheet.specs.declared.row.Head.{Head}
 use Rattle.sheet.specs.declared.row.Relation.{Relation}
@@ -12,21 +12,21 @@ use Rattle.sheet.specs.Rows.{row_at}
 use Rattle.judge.specs.Rules.{Listens}
 use Rattle.judge.specs.Verdict.{is_keep, listens}
 use Rattle.netcode.specs.declared.step.Step.{Step}
-use Rattle.netcode.specs.declared.step.Step.TheVariants.{Halt, Send, Receive, Keep, Clear, Give}
+use Rattle.netcode.specs.declared.step.Step.TheVariants.{Send, Receive, Keep, Clear, Give}
 use Rattle.netcode.specs.Layouts.{work_program, line_program, station_of}
 use Rattle.schedule.specs.Rows.{Test as Asked}
-use Rattle.schedule.specs.Program.{Step as PlannedStep, Engine, one, tested, onward, row_turn, exec, asks, heads, plainly, plain, Plain, Share, due, is_date as planned_date, wake, addr, target, turn, open_len, opening as planned_opening, code_to as planned_to}
+use Rattle.schedule.specs.Program.{Step as PlannedStep, Engine, one, tested, onward, row_turn, exec, asks, heads, plainly, plain, Plain, Share, due, is_date as planned_date, wake, addr, target, turn, open_len, opening as planned_opening}
 use Rattle.schedule.specs.Machine.{share_of, head_of, program}
 use Rattle.schedule.proofs.Blocks.{layout-any, opening-any, length-opening}
 use Rattle.schedule.proofs.Openings.{head_plain}
 use Rattle.schedule.proofs.Wake.{due-date}
-use Rattle.translate.specs.Schedules.{keep_count, is_equal, as_test, as_tests, as_row, rows_of, row_total, keeps_of, relation_from, concrete}
+use Rattle.translate.specs.Schedules.{keep_count, as_test, as_tests, rows_of, row_total, keeps_of, relation_from, concrete}
 use Rattle.translate.specs.Ordered.{Ordered}
 use Rattle.translate.specs.Laws.{Sheet}
-use Rattle.translate.specs.Translation.{tests_in, date_of, end_of, is_line, belongs, act, is_due, first_date, address, preparation, opening_length, program_code}
-use Rattle.translate.specs.Turns.{Done, perform, waits, one_step, runs, BelongsTo, Due, DateOf, FirstFrom, block_at, TestsHold, Topmost, NoneHolds, Turn, TurnsStand}
+use Rattle.translate.specs.Translation.{tests_in, date_of, end_of, is_line, belongs, act, first_date, address, preparation, program_code}
+use Rattle.translate.specs.Turns.{Done, perform, waits, one_step, runs, BelongsTo, Due, DateOf, FirstFrom, block_at, TestsHold, Topmost, Turn, TurnsStand}
 use Rattle.translate.proofs.Dates.{first-least, first-top, first-is, first-none-before}
-use Rattle.translate.proofs.Maps.{keep-few, keep-front, tests_same, end_same, relation-same, due-same, total, is-date, first-wake, address_same, preparation-same, opening-length, program-maps}
+use Rattle.translate.proofs.Maps.{keep-front, tests_same, end_same, relation-same, due-same, total, first-wake, address_same, preparation-same, opening-length, program-maps}
 use Rattle.translate.proofs.Judging.{ordered, limits}
 
 -- The rows of a program.
@@ -177,12 +177,12 @@ module _ (rows : List Row) (p : ℕ) (holds : Test → Bool) where
   asked-as : (t : Test) → asked (as_test t) ≡ holds t
   asked-as t = ap (λ (r : Relation). holds record { variable = t.variable; relation = r; word = t.word }) (relation-same t.relation)
 
-  every-if : (ts : List Test) → All (λ t. holds t ≡ true) ts → every (as_tests ts) ≡ true
+  every-if : (ts : List Test) → AllByRecursion (λ t. holds t ≡ true) ts → every (as_tests ts) ≡ true
   unfolding every
   every-if [] a = refl
   every-if (t ∷ ts) (x, a) = and_from _ _ (asked-as t ∙ x) (every-if ts a)
 
-  every-so : (ts : List Test) → every (as_tests ts) ≡ true → All (λ t. holds t ≡ true) ts
+  every-so : (ts : List Test) → every (as_tests ts) ≡ true → AllByRecursion (λ t. holds t ≡ true) ts
   unfolding every
   every-so [] e = tt
   every-so (t ∷ ts) e = let q = and_parts (asked (as_test t)) _ e in (sym (asked-as t) ∙ q.0, every-so ts q.1)

@@ -1,5 +1,5 @@
 use Rattle.std.specs.Prelude.{◌≡◌, ℕ, zero, suc, ◌-◌, ◌<◌, ◌≤◌, Bool, true, cond, ◌⊎◌, List, [], ◌∷◌, ◌++◌, length, Some, None, Option, nat_lt, slice_index_or}
-use Rattle.std.specs.List.{AllByRecursion as All}
+use Rattle.std.specs.List.{AllByRecursion}
 use Rattle.sheet.specs.declared.row.Head.{Head}
 use Rattle.sheet.specs.declared.row.Test.{Test}
 use Rattle.sheet.specs.declared.row.Row.{Row}
@@ -74,7 +74,7 @@ module _ (cycle : ℕ) (rows : List Row) (p : ℕ) where
 
   module _ (holds : Test → Bool) where
     abbrev pub TestsHold : ℕ → Type 0
-    TestsHold i = All (λ t. holds t ≡ true) (tests_in (row_at rows i))
+    TestsHold i = AllByRecursion (λ t. holds t ≡ true) (tests_in (row_at rows i))
 
     -- Row i is the topmost of date d whose tests hold.
     pub record Topmost (d i : ℕ) : Type 0 where

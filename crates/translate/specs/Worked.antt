@@ -1,4 +1,4 @@
-use Rattle.std.specs.Prelude.{◌≡◌, ℕ, List, [], ◌∷◌, map, length}
+use Rattle.std.specs.Prelude.{◌≡◌, [], ◌∷◌, map, length}
 use Rattle.judge.specs.Worked.{worked_head, worked_sheet}
 use Rattle.translate.specs.Translation.{translated}
 

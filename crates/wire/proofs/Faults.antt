@@ -1,7 +1,7 @@
 -- What the fault of a number says of its bytes.
-use Rattle.std.proofs.Common.{◌≡◌, ℕ, zero, suc, ◌+◌, ◌-◌, ◌*◌, ◌^◌, ◌<◌, ◌≤◌, Bool, true, false, cond, eqb, ltb, ◌⊎◌, List, [], ◌∷◌, ◌++◌, length, Ok, Err, Result, sym, refl, ap, ◌∙◌, inl, inr, arith}
-use Rattle.std.specs.List.{AllByRecursion as All}
-use Rattle.std.proofs.lemmas.Bool.{cases_lt, lt-ltb, le-ltb, eq-eqb, ne_eqb}
+use Rattle.std.proofs.Common.{◌≡◌, ℕ, zero, suc, ◌-◌, ◌^◌, ◌<◌, ◌≤◌, Bool, true, false, cond, eqb, ltb, ◌⊎◌, List, [], ◌∷◌, ◌++◌, length, Ok, Err, Result, sym, ap, ◌∙◌, inl, inr, arith}
+use Rattle.std.specs.List.{AllByRecursion}
+use Rattle.std.proofs.lemmas.Bool.{cases_lt, lt-ltb, le-ltb, ne_eqb}
 use Rattle.fault.specs.declared.refusal.Refusal.{Refusal}
 use Rattle.fault.specs.declared.refusal.Refusal.TheVariants.{EndsEarly, NotShortest}
 use Rattle.wire.specs.Numbers.{numeral, under}
@@ -35,7 +35,7 @@ high left first b bs h =
     rw (le-ltb b 128 h, ne_eqb (suc left) 0 (omega arith), m)
 
 -- Bytes that end too early are too few, and each announces another.
-pub early : (left : ℕ) (first : Bool) (xs : List ℕ) → numeral left first xs ≡ Err EndsEarly → (length xs ≤ left) × All (λ b. 128 ≤ b) xs
+pub early : (left : ℕ) (first : Bool) (xs : List ℕ) → numeral left first xs ≡ Err EndsEarly → (length xs ≤ left) × AllByRecursion (λ b. 128 ≤ b) xs
 early left first [] e = (omega arith, tt)
 early zero first (b ∷ bs) e =
     elim (cases_lt b 128) [ inl h ↦ absurd (low-never 0 first b bs h e) | inr h ↦ absurd (short-early (rw (le-ltb b 128 h) at e)) ]

@@ -1,11 +1,11 @@
-use Rattle.std.proofs.Common.{◌≡◌, ℕ, zero, suc, ◌+◌, ◌-◌, ◌*◌, ◌/◌, ◌%◌, ◌^◌, ◌<◌, ◌≤◌, Bool, true, false, cond, eqb, ltb, ◌⊎◌, List, [], ◌∷◌, ◌++◌, length, get_or, take, Ok, Err, Result, sym, refl, ap, ◌∙◌, subst, inl, inr, pow-suc, add-one, arith}
+use Rattle.std.proofs.Common.{◌≡◌, ℕ, zero, suc, ◌+◌, ◌-◌, ◌*◌, ◌/◌, ◌%◌, ◌^◌, ◌<◌, ◌≤◌, Bool, true, false, cond, eqb, ltb, List, [], ◌∷◌, ◌++◌, length, get_or, take, Ok, Err, Result, sym, refl, ap, ◌∙◌, inl, inr, pow-suc, add-one, arith}
 use Rattle.std.proofs.lemmas.List.{take_all}
-use Rattle.std.proofs.lemmas.Bool.{true≢false, cases_lt, cases_eq, cond-true, cond-false, lt-ltb, le-ltb, eq-eqb, ne_eqb}
+use Rattle.std.proofs.lemmas.Bool.{true≢false, cases_lt, cases_eq, lt-ltb, le-ltb, eq-eqb, ne_eqb}
 use Rattle.fault.specs.declared.refusal.Refusal.{Refusal}
-use Rattle.fault.specs.declared.refusal.Refusal.TheVariants.{EndsEarly, NotShortest}
+use Rattle.fault.specs.declared.refusal.Refusal.TheVariants.{NotShortest}
 use Rattle.wire.specs.Numbers.{numeral, under}
 use Rattle.wire.proofs.Steps.{limit-some}
-use Rattle.wire.specs.Bytes.{groups_of, bytes_of, ReadsBack, OneForm, SameBytes}
+use Rattle.wire.specs.Bytes.{groups_of, ReadsBack, OneForm, SameBytes}
 
 numeral-last : (left : ℕ) (first : Bool) (b : ℕ) (bs : List ℕ) → b < 128 → (b ≡ 0 → first ≡ true) → (left ≡ 0 → b ≤ 15)
     → numeral left first (b ∷ bs) ≡ Ok (b, 1)

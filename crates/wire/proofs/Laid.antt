@@ -1,8 +1,8 @@
 -- Numbers written one after the other.
-use Rattle.std.proofs.Common.{◌≡◌, ℕ, zero, suc, ◌+◌, ◌-◌, ◌*◌, ◌<◌, ◌≤◌, cond, ltb, ◌⊎◌, List, [], ◌∷◌, ◌++◌, length, get_or, take, drop, sym, refl, ap, ◌∙◌, subst, inl, inr, append_assoc, append-nil, add-zero, arith, length-append, length-drop, take-append-drop, length-take}
-use Rattle.std.proofs.lemmas.List.{drop-drop, drop_at, take_at, take_more, take_all, drop_all, drop_more}
-use Rattle.std.proofs.lemmas.Bool.{le-ltb, cases_lt}
-use Rattle.wire.specs.Bytes.{groups_of, bytes_of, spelled, placed}
+use Rattle.std.proofs.Common.{◌≡◌, ℕ, ◌+◌, ◌<◌, ◌≤◌, List, [], ◌∷◌, ◌++◌, length, get_or, take, drop, sym, refl, ap, ◌∙◌, append_assoc, append-nil, add-zero, arith, length-append, length-drop, take-append-drop, length-take}
+use Rattle.std.proofs.lemmas.List.{drop-drop, drop_at, take_at, take_more, drop_more}
+use Rattle.std.proofs.lemmas.Bool.{le-ltb}
+use Rattle.wire.specs.Bytes.{bytes_of, spelled, placed}
 
 pub spelled-append : (ns ms : List ℕ) → spelled (ns ++ ms) ≡ spelled ns ++ spelled ms
 spelled-append [] ms = refl

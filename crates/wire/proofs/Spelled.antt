@@ -1,7 +1,7 @@
 -- Lists of numbers in bytes: reading them one after the other, and the bytes that they are written as.
-use Rattle.std.proofs.Common.{◌≡◌, ℕ, zero, suc, ◌+◌, ◌-◌, ◌^◌, ◌<◌, ◌≤◌, true, List, [], ◌∷◌, ◌++◌, length, get_or, take, drop, Ok, Err, Result, sym, refl, ap, ◌∙◌, subst, append_assoc, add-zero, arith, length-append, length-drop, take-append-drop, length-take, get_or-drop}
+use Rattle.std.proofs.Common.{◌≡◌, ℕ, ◌+◌, ◌-◌, ◌^◌, ◌<◌, ◌≤◌, true, List, [], ◌∷◌, ◌++◌, length, take, drop, Ok, Err, Result, sym, refl, ap, ◌∙◌, subst, append_assoc, add-zero, arith, length-append, take-append-drop, length-take, get_or-drop}
 use Rattle.std.proofs.lemmas.List.{drop-drop, drop_at, drop-take}
-use Rattle.std.specs.List.{AllByRecursion as All}
+use Rattle.std.specs.List.{AllByRecursion}
 use Rattle.fault.specs.declared.refusal.Fault.{Fault}
 use Rattle.fault.specs.declared.refusal.Refusal.{Refusal}
 use Rattle.fault.specs.declared.place.Offset.{Offset}
@@ -30,7 +30,7 @@ reads-parts num aft pos (n ∷ ns) ms end h = go (reads-parts num aft (aft pos) 
 
 -- Numbers of 32 bits.
 abbrev pub Words : List ℕ → Type 0
-Words ns = All (λ n. n < 2 ^ 32) ns
+Words ns = AllByRecursion (λ n. n < 2 ^ 32) ns
 
 first-number : (bs : List ℕ) (pos n : ℕ) (rest : List ℕ) → n < 2 ^ 32 → drop pos bs ≡ bytes_of n ++ rest
     → (number_at bs pos ≡ Ok n) × (after_number bs pos ≡ pos + length (bytes_of n)) × (drop (pos + length (bytes_of n)) bs ≡ rest)

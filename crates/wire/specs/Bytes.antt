@@ -1,5 +1,5 @@
-use Rattle.std.specs.Prelude.{◌≡◌, ℕ, zero, suc, ◌+◌, ◌*◌, ◌/◌, ◌%◌, ◌^◌, ◌<◌, Bool, true, false, cond, List, [], ◌∷◌, ◌++◌, length, take, drop, Ok, Err, Result, nat_lt, slice_index}
-use Rattle.fault.specs.declared.refusal.Refusal.TheVariants.{EndsEarly, NotShortest}
+use Rattle.std.specs.Prelude.{◌≡◌, ℕ, zero, suc, ◌+◌, ◌/◌, ◌%◌, ◌^◌, ◌<◌, true, cond, List, [], ◌∷◌, ◌++◌, length, take, drop, Ok, Err, Result, nat_lt, slice_index}
+use Rattle.fault.specs.declared.refusal.Refusal.TheVariants.{NotShortest}
 use Rattle.wire.specs.Numbers.{numeral, number_at, fault_at}
 
 -- The bytes of a number of at most `left` groups and one, lowest first.

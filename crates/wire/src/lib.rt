@@ -1,3 +1,5 @@
+#![tactic(auto)]
+
 mod reader;
 mod writer;
 

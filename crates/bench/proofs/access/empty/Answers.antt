@@ -1,4 +1,4 @@
-use Rattle.std.proofs.Common.{◌≡◌, ℕ, ◌+◌, ◌*◌, List, set, None, Option, sym, refl, ap, ◌∙◌, add-one, arith}
+use Rattle.std.proofs.Common.{◌≡◌, ℕ, ◌+◌, ◌*◌, List, set, None, Option, refl, ap, ◌∙◌, add-one, arith}
 use Rattle.semantics.specs.Machine.{emptied}
 use Rattle.bench.proofs.access.empty.Goals as goal
 

@@ -1,4 +1,4 @@
-use Rattle.std.proofs.Common.{ℕ, List, take, Option, sym, ◌∙◌}
+use Rattle.std.proofs.Common.{take, sym, ◌∙◌}
 use native.Mathlib.Nat.{sub-zero}
 use Rattle.std.proofs.lemmas.List.{at_drop_all}
 use Rattle.fault.specs.Scan.{first_bad}
@@ -12,7 +12,7 @@ returns-in-Some g c =
 
 pub loop-i-preserved : goal.loop-i-preserved
 loop-i-preserved g c =
-    c.loop-i.invariant ∙ bad-here (λ i x. g.R.Rule.broken c.args.ctx.now (take i c.args.records.now) x) c.args.records.now c.loop-i.i c.index-records-i.result _ c.loop-i-test.true c.index-records-i.is (rw sub-zero at c.in-default.ensures)
+    c.loop-i.invariant ∙ bad-here (λ i x. g.R.Rule.broken c.args.ctx.now (take i c.args.records.now) x) c.args.records.now c.loop-i.i c.index-records-i.result _ c.loop-i-test.true c.index-records-i.is (rw sub-zero at c.in_default.ensures)
 
 pub returns : goal.returns
 returns g c =

@@ -1,4 +1,4 @@
-use Rattle.std.proofs.Common.{◌≡◌, ◌-◌, not, length}
+use Rattle.std.proofs.Common.{◌≡◌, ◌-◌, length}
 use Rattle.sheet.specs.Rows.{row_at}
 use Rattle.judge.specs.Places.{first_place}
 use Rattle.judge.specs.Verdict.{overlapping}

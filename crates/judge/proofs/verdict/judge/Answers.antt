@@ -5,8 +5,8 @@ use Rattle.judge.proofs.verdict.judge.Goals as goal
 
 pub returns-in-Some : goal.returns-in-Some
 returns-in-Some c =
-    let e : Some c.fault-of.result ≡ verdict c.args.head.now c.args.rows.now = search rules in
-    record { value = e; right = right-at c.args.head.now c.args.rows.now (Some c.fault-of.result) e }
+    let e : Some c.fault_of.result ≡ verdict c.args.head.now c.args.rows.now = search rules in
+    record { value = e; right = right-at c.args.head.now c.args.rows.now (Some c.fault_of.result) e }
 
 pub returns-in-None : goal.returns-in-None
 returns-in-None c =

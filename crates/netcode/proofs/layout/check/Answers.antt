@@ -19,7 +19,7 @@ loop-number-preserved c =
     let n = c.min-length.result in
     let p : take (n - 0) xs ≡ take n xs = rw sub-zero in
     c.loop-number.invariant
-    ∙ judged c.args.layout.now.lengths _ c.loop-number.number n xs (take (n - 0) xs) _ _ (omega arith) (omega arith) c.min-length.ensures p (take_rest xs n) c.in-default.ensures
+    ∙ judged c.args.layout.now.lengths _ c.loop-number.number n xs (take (n - 0) xs) _ _ (omega arith) (omega arith) c.min-length.ensures p (take_rest xs n) c.in_default.ensures
 
 pub returns : goal.returns
 returns c = sym (c.loop-number.invariant ∙ cut_all (first_broken c.loop-number.number) c.args.layout.now.lengths _ c.loop-number.number c.loop-number.rest.now (omega arith))

@@ -5,17 +5,17 @@ use Rattle.plant.specs.Fit.{fit_from}
 use Rattle.plant.proofs.Fits.{fit-more, fit-means}
 use Rattle.plant.proofs.fit.fit_rows.Goals as goal
 
-pub returns-in-err-fit-row : goal.returns-in-err-fit-row
-returns-in-err-fit-row g c =
+pub returns-in_err-fit_row : goal.returns-in_err-fit_row
+returns-in_err-fit_row g c =
     let m = g.P.Plant.model in
-    let p = err_from_is_err_and c.from-residual.result c.from-residual.ensures.1 in
-    let e : Err c.in-err-fit-row.field-0.0 ≡ fit_from m 0 c.args.rows.now =
-    sym (c.loop-i.invariant ∙ fit-more m c.args.rows.now c.loop-i.i _ _ (omega (arith, c.loop-i-test.true)) c.in-err-fit-row.ensures) in
+    let p = err_from_is_err_and c.from_residual.result c.from_residual.ensures.1 in
+    let e : Err c.in_err-fit_row.field-0.0 ≡ fit_from m 0 c.args.rows.now =
+    sym (c.loop-i.invariant ∙ fit-more m c.args.rows.now c.loop-i.i _ _ (omega (arith, c.loop-i-test.true)) c.in_err-fit_row.ensures) in
     rw (p.1, p.2) record { value = e; means = fit-means m c.args.rows.now _ e }
 
 pub loop-i-preserved : goal.loop-i-preserved
 loop-i-preserved g c =
-    c.loop-i.invariant ∙ fit-more g.P.Plant.model c.args.rows.now c.loop-i.i _ _ (omega (arith, c.loop-i-test.true)) c.in-ok-fit-row.ensures
+    c.loop-i.invariant ∙ fit-more g.P.Plant.model c.args.rows.now c.loop-i.i _ _ (omega (arith, c.loop-i-test.true)) c.in_ok-fit_row.ensures
 
 pub returns : goal.returns
 returns g c =

@@ -14,4 +14,4 @@ returns-in-Err c =
 pub returns-in-Ok : goal.returns-in-Ok
 returns-in-Ok c =
     pair-there c.args.bytes.now _ c.args.pos _ (c.new-reader.ensures.bytes ∙ take_rest c.args.bytes.now c.args.pos) c.new-reader.ensures.start
-    _ _ _ c.in-Ok.ensures.value (c.pos.ensures ∙ c.read-pair.ensures.next)
+    _ _ _ c.in-Ok.ensures.value (c.pos.ensures ∙ c.read_pair.ensures.next)

@@ -5,7 +5,7 @@ use Rattle.programs.proofs.encode.put_steps.Goals as goal
 
 pub loop-step-preserved : goal.loop-step-preserved
 loop-step-preserved c =
-    let v = c.put-step-end.ensures in (
+    let v = c.put_step-end.ensures in (
       c.loop-step.invariant.0 ∙ put_item numbers_of c.loop-step.out c.loop-step.end c.args.steps.now c.loop-step.step-index no_step _ _ c.loop-step-test.true v.put,
       omega (arith, c.loop-step.invariant.1, v.near),
     )

@@ -7,5 +7,5 @@ pub returns : goal.returns
 returns c =
     let bs = c.args.bytes.now in
     let xs = c.args.steps.now in
-    let e = file-read xs _ _ _ _ (file_in bs (length xs)) (file-fits bs (length xs)) c.in-ok-read-file.ensures c.read-file-2.ensures in
+    let e = file-read xs _ _ _ _ (file_in bs (length xs)) (file-fits bs (length xs)) c.in_ok-read_file.ensures c.read_file-2.ensures in
     record { layout = e.0; list = e.1 }

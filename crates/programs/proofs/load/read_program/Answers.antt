@@ -6,15 +6,15 @@ use Rattle.programs.proofs.load.read_program.Goals as goal
 
 pub returns : goal.returns
 returns c =
-    let v = c.in-ok-count.ensures in
-    let w = c.in-ok-read-steps.ensures in
-    let b = c.in-ok-count.ensures.same in
+    let v = c.in_ok-count.ensures in
+    let w = c.in_ok-read_steps.ensures in
+    let b = c.in_ok-count.ensures.same in
     let bs = c.args.reader.now.bytes.now in
     record {
       value =
-          program-more c.args.list.now c.args.before c.args.room bs c.args.reader.now.pos c.in-ok-count.count _ _ v.value (omega arith)
+          program-more c.args.list.now c.args.before c.args.room bs c.args.reader.now.pos c.in_ok-count.count _ _ v.value (omega arith)
           (w.value
-          ∙ ap (λ (r : Bor (List ℕ)). storing c.args.list.now c.args.before (steps_from c.in-ok-count.count r.now c.number.new.self.pos)) b
-          ∙ ap (λ (p : ℕ). storing c.args.list.now c.args.before (steps_from c.in-ok-count.count bs p)) v.next);
+          ∙ ap (λ (r : Bor (List ℕ)). storing c.args.list.now c.args.before (steps_from c.in_ok-count.count r.now c.number.new.self.pos)) b
+          ∙ ap (λ (p : ℕ). storing c.args.list.now c.args.before (steps_from c.in_ok-count.count bs p)) v.next);
       same = w.same ∙ b;
     }

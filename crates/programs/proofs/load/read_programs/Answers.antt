@@ -1,4 +1,4 @@
-use Rattle.std.proofs.Common.{◌≡◌, ℕ, ◌+◌, ◌-◌, ◌<◌, List, sym, ap, ◌∙◌, arith, length-set, Bor}
+use Rattle.std.proofs.Common.{◌≡◌, ℕ, ◌+◌, ◌-◌, List, sym, ap, ◌∙◌, arith, length-set, Bor}
 use Rattle.std.proofs.lemmas.Result.{err_from_is_err_and}
 use Rattle.wire.specs.Numbers.{number_at, after_number}
 use Rattle.netcode.specs.Layouts.{program_count}
@@ -7,10 +7,10 @@ use Rattle.programs.specs.Stores.{storing_program}
 use Rattle.programs.proofs.Stored.{programs-more, programs-refused}
 use Rattle.programs.proofs.load.read_programs.Goals as goal
 
-pub returns-in-err-count : goal.returns-in-err-count
-returns-in-err-count c =
-    let p = err_from_is_err_and c.from-residual.result c.from-residual.ensures.1 in
-    let v = c.in-err-count.ensures in
+pub returns-in_err-count : goal.returns-in_err-count
+returns-in_err-count c =
+    let p = err_from_is_err_and c.from_residual.result c.from_residual.ensures.1 in
+    let v = c.in_err-count.ensures in
     let l = c.loop-number in
     let bs = c.args.reader.now.bytes.now in
     let at-bytes = ap (λ (r : Bor (List ℕ)). storing_program l.list l.before (one_program (number_at r.now) (after_number r.now) c.args.room l.before l.reader.pos)) l.invariant.1 in
@@ -25,7 +25,7 @@ returns-in-err-count c =
 
 pub loop-number-preserved : goal.loop-number-preserved
 loop-number-preserved c =
-    let v = c.in-ok-count.ensures in
+    let v = c.in_ok-count.ensures in
     let l = c.loop-number in
     let bs = c.args.reader.now.bytes.now in
     let at-bytes = ap (λ (r : Bor (List ℕ)). storing_program l.list l.before (one_program (number_at r.now) (after_number r.now) c.args.room l.before l.reader.pos)) l.invariant.1 in

@@ -1,4 +1,4 @@
-use Rattle.std.proofs.Common.{◌≡◌, ◌+◌, ◌-◌, ◌*◌, ◌^◌, ◌≤◌, length, replicate}
+use Rattle.std.proofs.Common.{◌≡◌, ◌-◌, ◌*◌, ◌^◌, ◌≤◌, length, replicate}
 use Rattle.wire.specs.Numbers.{number_at, after_number}
 use Rattle.netcode.specs.Layouts.{program_count}
 use Rattle.programs.specs.Files.{some_programs}

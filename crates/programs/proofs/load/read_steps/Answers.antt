@@ -1,14 +1,14 @@
-use Rattle.std.proofs.Common.{◌≡◌, ℕ, ◌+◌, ◌-◌, ◌<◌, List, sym, ap, ◌∙◌, arith, Bor}
+use Rattle.std.proofs.Common.{◌≡◌, ℕ, ◌+◌, ◌-◌, List, sym, ap, ◌∙◌, arith, Bor}
 use Rattle.std.proofs.lemmas.Result.{err_from_is_err_and}
 use Rattle.programs.specs.Steps.{step_from, steps_from}
 use Rattle.programs.specs.Stores.{storing}
 use Rattle.programs.proofs.Stored.{steps-more, steps-refused}
 use Rattle.programs.proofs.load.read_steps.Goals as goal
 
-pub returns-in-err-step : goal.returns-in-err-step
-returns-in-err-step c =
-    let p = err_from_is_err_and c.from-residual.result c.from-residual.ensures.1 in
-    let v = c.in-err-step.ensures in
+pub returns-in_err-step : goal.returns-in_err-step
+returns-in_err-step c =
+    let p = err_from_is_err_and c.from_residual.result c.from_residual.ensures.1 in
+    let v = c.in_err-step.ensures in
     let b = c.loop-i.invariant.1 in
     let at-bytes = ap (λ (r : Bor (List ℕ)). step_from r.now c.loop-i.reader.pos) b in
     rw (p.1, p.2)
@@ -21,7 +21,7 @@ returns-in-err-step c =
 
 pub loop-i-preserved : goal.loop-i-preserved
 loop-i-preserved c =
-    let v = c.in-ok-step.ensures in
+    let v = c.in_ok-step.ensures in
     let b = c.loop-i.invariant.1 in
     let at-bytes = ap (λ (r : Bor (List ℕ)). step_from r.now c.loop-i.reader.pos) b in
     let m : c.args.count - (c.loop-i.i + 1) ≡ (c.args.count - c.loop-i.i) - 1 = omega arith in

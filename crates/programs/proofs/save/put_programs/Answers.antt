@@ -4,13 +4,13 @@ use Rattle.std.proofs.lemmas.List.{take_rest, length-take}
 use Rattle.programs.proofs.Lengths.{word_at, program-put, programs-put}
 use Rattle.programs.proofs.save.put_programs.Goals as goal
 
-pub put-program-end-requires : goal.put-program-end-requires
-put-program-end-requires c =
+pub put_program-end-requires : goal.put_program-end-requires
+put_program-end-requires c =
     let w = word_at c.args.layout.now.lengths _ c.loop-number.number c.requires.0 (omega arith) (omega arith) in
     (simp length-take (omega (arith, w, c.min-length.ensures)), omega (arith, c.loop-number.invariant.1))
 
-pub offset-bounds-rest-length : goal.offset-bounds-rest-length
-offset-bounds-rest-length c =
+pub offset_bounds-rest-length : goal.offset_bounds-rest-length
+offset_bounds-rest-length c =
     let w = word_at c.args.layout.now.lengths _ c.loop-number.number c.requires.0 (omega arith) (omega arith) in
     omega (arith, w, c.min-length.ensures)
 
@@ -20,8 +20,8 @@ loop-number-preserved c =
     let n = c.min-length.result in
     let p : take (n - 0) xs ≡ take n xs = rw sub-zero in (
       c.loop-number.invariant.0
-          ∙ program-put c.args.layout.now.lengths _ c.loop-number.number n xs (take (n - 0) xs) _ c.loop-number.out c.loop-number.end _ _ (omega arith) (omega arith) c.min-length.ensures p (take_rest xs n) c.put-program-end.ensures.put,
-      omega (arith, c.loop-number.invariant.1, c.put-program-end.ensures.near),
+          ∙ program-put c.args.layout.now.lengths _ c.loop-number.number n xs (take (n - 0) xs) _ c.loop-number.out c.loop-number.end _ _ (omega arith) (omega arith) c.min-length.ensures p (take_rest xs n) c.put_program-end.ensures.put,
+      omega (arith, c.loop-number.invariant.1, c.put_program-end.ensures.near),
     )
 
 pub returns : goal.returns

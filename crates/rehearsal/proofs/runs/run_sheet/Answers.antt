@@ -1,4 +1,4 @@
-use Rattle.std.proofs.Common.{◌≡◌, length, vec_items, vec_len, sym, ap, ◌∙◌, arith}
+use Rattle.std.proofs.Common.{length, vec_len, sym, ap, ◌∙◌}
 use Rattle.stages.specs.declared.stage.Accepted.{Accepted}
 use Rattle.stages.specs.Views.{accepted_head, accepted_rows}
 use Rattle.translate.specs.Translation.{translated}
@@ -15,11 +15,11 @@ returns-in-Ok g c =
     let rows = accepted_rows sheet in
     let start = g.P.Plant.meaning c.args.plant.now in
     let t = c.in-Ok.ensures in
-    let f = c.in-default.ensures in
+    let f = c.in_default.ensures in
     let known = f.means.good (f.value ∙ sym f.value) in
     let programs = c.started-run.ensures.programs ∙ ap (λ (a : Accepted). translated (accepted_head a) (accepted_rows a)) t.1 in (
       nothing-against m h rows (vec_len c.args.steps) (length c.args.replies.now) (length c.args.requests.now) f.value c.if-replies-requests.false t.0,
-      ran m h rows start (g.P.Plant.meaning c.serve-all.new.plant) c.args.requests.now c.args.replies.now c.serve-all.new.replies c.started-run.result c.serve-all.new.self c.serve-all.result
-          programs c.started-run.ensures.state c.serve-all.ensures.programs c.serve-all.ensures.served c.if-replies-requests.false
+      ran m h rows start (g.P.Plant.meaning c.serve_all.new.plant) c.args.requests.now c.args.replies.now c.serve_all.new.replies c.started-run.result c.serve_all.new.self c.serve_all.result
+          programs c.started-run.ensures.state c.serve_all.ensures.programs c.serve_all.ensures.served c.if-replies-requests.false
           (run-promise m g.P.Plant.apart h rows (sheet-of sheet) known start),
     )

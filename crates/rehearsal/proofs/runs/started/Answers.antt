@@ -1,4 +1,4 @@
-use Rattle.std.proofs.Common.{◌≡◌, List, vec_items, sym, ap, ◌∙◌, ap₂}
+use Rattle.std.proofs.Common.{List, vec_items, sym, ap, ◌∙◌, ap₂}
 use Rattle.netcode.specs.declared.step.Layout.{Layout}
 use Rattle.netcode.specs.declared.step.Step.{Step}
 use Rattle.netcode.specs.Layouts.{programs_of}

@@ -5,10 +5,10 @@ use Rattle.sheet.specs.Sheets.{row_from}
 use Rattle.sheet.proofs.Gathered.{rows_more, rows-refused}
 use Rattle.sheet.proofs.reading.gather.Goals as goal
 
-pub returns-in-err-all : goal.returns-in-err-all
-returns-in-err-all c =
-    let p = err_from_is_err_and c.from-residual.result c.from-residual.ensures.1 in
-    let v = c.in-err-all.ensures in
+pub returns-in_err-all : goal.returns-in_err-all
+returns-in_err-all c =
+    let p = err_from_is_err_and c.from_residual.result c.from_residual.ensures.1 in
+    let v = c.in_err-all.ensures in
     let at-bytes = ap (λ (r : Bor (List ℕ)). row_from r.now c.loop-i.reader.pos) c.loop-i.invariant.1 in
     rw (p.1, p.2)
     (rows-refused (take c.loop-i.i c.loop-i.all) (c.args.count - c.loop-i.i) c.args.reader.now.bytes.now c.loop-i.reader.pos _ (omega arith) (v.value ∙ at-bytes)
@@ -16,7 +16,7 @@ returns-in-err-all c =
 
 pub loop-i-preserved : goal.loop-i-preserved
 loop-i-preserved c =
-    let v = c.in-ok-all.ensures in
+    let v = c.in_ok-all.ensures in
     let b = c.loop-i.invariant.1 in
     let at-bytes = ap (λ (r : Bor (List ℕ)). row_from r.now c.loop-i.reader.pos) b in
     let m : c.args.count - (c.loop-i.i + 1) ≡ (c.args.count - c.loop-i.i) - 1 = omega arith in

@@ -7,6 +7,6 @@ returns-in-Four c =
     record {
       numbers =
           four-numbers c.args.condition c.in-Four.a c.in-Four.b c.in-Four.c c.in-Four.d _ _ _ _ c.in-Four.is
-          c.relation-code-x-in-Four.ensures c.relation-code-y-in-Four.ensures c.relation-code-z-in-Four.ensures c.relation-code-w.ensures;
+          c.relation_code-x-in-Four.ensures c.relation_code-y-in-Four.ensures c.relation_code-z-in-Four.ensures c.relation_code-w.ensures;
       few = omega arith;
     }

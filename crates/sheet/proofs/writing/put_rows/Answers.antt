@@ -1,4 +1,4 @@
-use Rattle.std.proofs.Common.{◌≡◌, ℕ, ◌+◌, ◌≤◌, List, ◌++◌, length, get_or, take, drop, sym, ap, ◌∙◌, subst, add-zero, arith, length-append}
+use Rattle.std.proofs.Common.{◌≡◌, ℕ, ◌+◌, ◌≤◌, List, ◌++◌, length, take, drop, sym, ap, ◌∙◌, add-zero, arith, length-append}
 use Rattle.std.proofs.lemmas.List.{take_all}
 use Rattle.wire.specs.Bytes.{spelled, placed}
 use Rattle.wire.proofs.Laid.{placed-more, placed-room, nothing_placed}
@@ -8,8 +8,8 @@ use Rattle.sheet.specs.Forms.{row_numbers}
 use Rattle.sheet.proofs.RowSizes.{form, form-more, form-split, form-first}
 use Rattle.sheet.proofs.writing.put_rows.Goals as goal
 
-pub put-row-next-requires : goal.put-row-next-requires
-put-row-next-requires c =
+pub put_row-next-requires : goal.put_row-next-requires
+put_row-next-requires c =
     let rs = c.args.rows.now in
     let i = c.loop-i.i in
     let o : length c.loop-i.out ≡ length c.args.out.now = omega arith in
@@ -28,10 +28,10 @@ loop-i-preserved c =
     let ys = spelled (row_numbers (row_at rs i)) in
     let e : form (take (i + 1) rs) ≡ xs ++ ys = form-more rs i c.loop-i-test.true in
     let room : at + length xs + length ys ≤ length out = omega (arith, form-split rs i, form-first rs i c.loop-i-test.true, c.requires) in
-    let f = c.put-row-next.ensures in
+    let f = c.put_row-next.ensures in
     let l : length (take at out ++ (xs ++ drop (at + length xs) out)) ≡ length c.loop-i.out = sym (ap length c.loop-i.invariant.1) in
     let o : length c.loop-i.out ≡ length out = omega arith in
-    let step : c.put-row-next.new.out ≡ placed (take at out ++ (xs ++ drop (at + length xs) out)) (at + length xs) ys =
+    let step : c.put_row-next.new.out ≡ placed (take at out ++ (xs ++ drop (at + length xs) out)) (at + length xs) ys =
     f.bytes
     ∙ ap (λ (zs : List ℕ). take c.loop-i.next zs ++ (ys ++ drop (c.loop-i.next + length ys) zs)) c.loop-i.invariant.1
     ∙ ap (λ (k : ℕ). take k (take at out ++ (xs ++ drop (at + length xs) out)) ++ (ys ++ drop (k + length ys) (take at out ++ (xs ++ drop (at + length xs) out)))) c.loop-i.invariant.0

@@ -1,4 +1,4 @@
-use Rattle.std.proofs.Common.{◌≡◌, List, length, sym, ap, ◌∙◌, arith}
+use Rattle.std.proofs.Common.{List, length, ap, ◌∙◌, arith}
 use Rattle.std.proofs.lemmas.List.{take_all}
 use Rattle.sheet.specs.declared.row.Row.{Row}
 use Rattle.sheet.proofs.RowSizes.{form, length_more}
@@ -7,8 +7,8 @@ use Rattle.sheet.proofs.writing.rows_size.Goals as goal
 pub loop-i-preserved : goal.loop-i-preserved
 loop-i-preserved c =
     let e = length_more c.args.rows.now c.loop-i.i c.loop-i-test.true in (
-      omega (arith, e, c.loop-i.invariant.0, c.row-size-size.ensures.size),
-      omega (arith, c.loop-i.invariant.1, c.row-size-size.ensures.few),
+      omega (arith, e, c.loop-i.invariant.0, c.row_size-size.ensures.size),
+      omega (arith, c.loop-i.invariant.1, c.row_size-size.ensures.few),
     )
 
 pub returns : goal.returns

@@ -1,4 +1,4 @@
-use Rattle.std.proofs.Common.{◌≡◌, ℕ, ◌+◌, ◌-◌, ◌*◌, ◌≤◌, List, [], ◌∷◌, length, sym, refl, ap, ◌∙◌, ap₂, add-one, arith}
+use Rattle.std.proofs.Common.{◌≡◌, ℕ, ◌+◌, ◌-◌, List, [], ◌∷◌, length, sym, ap, ◌∙◌, ap₂, add-one, arith}
 use Rattle.netcode.specs.declared.step.Step.{Step}
 use Rattle.netcode.specs.declared.step.Step.TheVariants.{Halt}
 use Rattle.translate.specs.Stores.{stored}
@@ -20,8 +20,8 @@ loop-i-init c =
       omega arith,
     )
 
-pub put-due-at-requires : goal.put-due-at-requires
-put-due-at-requires c =
+pub put_due-at-requires : goal.put_due-at-requires
+put_due-at-requires c =
     let rows = c.args.rows.now in
     let l = c.loop-i in
     let t = c.loop-i-test.true in
@@ -46,7 +46,7 @@ loop-i-preserved c =
     let rows = c.args.rows.now in
     let l = c.loop-i in
     let t = c.loop-i-test.true in
-    let e = c.put-due-at.ensures in
+    let e = c.put_due-at.ensures in
     let s = length-step c.args.cycle rows c.args.program c.args.date l.i (length rows) t in
     let i1 = l.invariant.1 in
     let i2 = l.invariant.2 in
@@ -64,7 +64,7 @@ pub returns : goal.returns
 returns c =
     let rows = c.args.rows.now in
     let l = c.loop-i in
-    let w = c.put-wait.ensures in
+    let w = c.put_wait.ensures in
     let i1 = l.invariant.1 in
     let z : length rows - l.i ≡ 0 = omega arith in
     let y = ap (rows_length c.args.cycle rows c.args.program c.args.date l.i) z ∙ length_last c.args.cycle rows c.args.program c.args.date l.i in
@@ -72,7 +72,7 @@ returns c =
     record {
       list =
           w.list
-          ∙ ap (λ (s : Step). stored l.steps l.at (s ∷ Halt ∷ [])) (c.wait-step-wait.ensures ∙ ap (wait_for c.args.cycle rows c.args.program c.args.opening c.args.date) (add-one c.args.date))
+          ∙ ap (λ (s : Step). stored l.steps l.at (s ∷ Halt ∷ [])) (c.wait_step-wait.ensures ∙ ap (wait_for c.args.cycle rows c.args.program c.args.opening c.args.date) (add-one c.args.date))
           ∙ sym (l.invariant.0 ∙ ap (λ (k : ℕ). stored l.steps l.at (rows_code c.args.cycle rows c.args.program c.args.opening c.args.date l.i k (l.at - c.args.base))) z
           ∙ ap (stored l.steps l.at) (rows_last c.args.cycle rows c.args.program c.args.opening c.args.date l.i (l.at - c.args.base)));
       end = omega arith;

@@ -1,4 +1,4 @@
-use Rattle.std.proofs.Common.{◌≡◌, ◌+◌, ◌-◌, ◌*◌, ◌≤◌, length}
+use Rattle.std.proofs.Common.{◌≡◌, ◌+◌, ◌-◌, ◌≤◌, length}
 use Rattle.translate.specs.Stores.{stored}
 use Rattle.translate.specs.Translation.{rows_length, rows_code}
 use Rattle.translate.proofs.blocks.put_block.Given as goal

@@ -1,7 +1,6 @@
-use Rattle.std.proofs.Common.{◌≡◌, ℕ, suc, ◌+◌, ◌-◌, ◌*◌, ◌≤◌, List, length, sym, refl, ap, ◌∙◌, ap₂, add-one, arith}
-use Rattle.netcode.specs.declared.step.Step.{Step}
+use Rattle.std.proofs.Common.{◌≡◌, ℕ, suc, ◌+◌, ◌-◌, length, sym, refl, ap, ◌∙◌, add-one, arith}
 use Rattle.translate.specs.Stores.{stored}
-use Rattle.translate.specs.Translation.{first_date, address, rows_length, rows_code}
+use Rattle.translate.specs.Translation.{first_date, address, rows_code}
 use Rattle.translate.proofs.Lengths.{address_more}
 use Rattle.translate.proofs.Puts.{rows_few, address-up, address-first, address-next, blocks-none, block-step}
 use Rattle.translate.proofs.blocks.put_blocks.Goals as goal
@@ -9,18 +8,18 @@ use Rattle.translate.proofs.blocks.put_blocks.Goals as goal
 pub loop-next-init : goal.loop-next-init
 loop-next-init c =
     let rows = c.args.rows.now in
-    let e = c.next-date-next.ensures in
-    let a = address-first c.args.cycle rows c.args.program c.args.opening c.next-date-next.result e.first in
+    let e = c.next_date-next.ensures in
+    let a = address-first c.args.cycle rows c.args.program c.args.opening c.next_date-next.result e.first in
     let o = c.requires.opened in (
-      (λ before old l f. blocks-none c.args.cycle rows c.args.program before old c.args.steps.now c.args.base c.next-date-next.result e.first f),
+      (λ before old l f. blocks-none c.args.cycle rows c.args.program before old c.args.steps.now c.args.base c.next_date-next.result e.first f),
       omega arith,
       omega arith,
       e.within,
       e.dated,
     )
 
-pub put-block-at-requires : goal.put-block-at-requires
-put-block-at-requires c =
+pub put_block-at-requires : goal.put_block-at-requires
+put_block-at-requires c =
     let rows = c.args.rows.now in
     let l = c.loop-next in
     let t = c.loop-next-test.true in
@@ -45,9 +44,9 @@ loop-next-preserved c =
     let rows = c.args.rows.now in
     let l = c.loop-next in
     let t = c.loop-next-test.true in
-    let b = c.put-block-at.ensures in
-    let e = c.next-date-next-in-loop-next.ensures in
-    let y = c.next-date-next-in-loop-next.result in
+    let b = c.put_block-at.ensures in
+    let e = c.next_date-next-in-loop-next.ensures in
+    let y = c.next_date-next-in-loop-next.result in
     let q = l.invariant.4 t in
     let f : y ≡ first_date c.args.cycle rows c.args.program (suc l.next) = e.first ∙ ap (first_date c.args.cycle rows c.args.program) (add-one l.next) in
     let i1 = l.invariant.1 in

@@ -1,4 +1,4 @@
-use Rattle.std.proofs.Common.{◌≡◌, ℕ, ◌+◌, ◌-◌, ◌*◌, ◌<◌, ◌≤◌, true, List, length}
+use Rattle.std.proofs.Common.{◌≡◌, ◌+◌, ◌-◌, ◌*◌, ◌<◌, ◌≤◌, true, List, length}
 use Rattle.netcode.specs.declared.step.Step.{Step}
 use Rattle.translate.specs.Stores.{stored}
 use Rattle.translate.specs.Translation.{is_date, address, code_to}

@@ -1,4 +1,4 @@
-use Rattle.std.proofs.Common.{◌≡◌, ℕ, ◌+◌, ◌-◌, length, sym, ap, ◌∙◌, arith}
+use Rattle.std.proofs.Common.{◌≡◌, ℕ, ◌-◌, length, ap, arith}
 use Rattle.netcode.specs.Layouts.{program_count}
 use Rattle.translate.specs.Stores.{steps_of}
 use Rattle.translate.specs.Translation.{programs_from}
@@ -15,7 +15,7 @@ pub loop-program-preserved : goal.loop-program-preserved
 loop-program-preserved c =
     let l = c.loop-program in
     let m = length_more c.args.cycle c.args.rows.now l.program (program_count c.args.stations) (omega arith) in
-    let k = c.program-length-sum.ensures in
+    let k = c.program_length-sum.ensures in
     let e = k.length in
     let f = k.few in
     let s = c.requires.short in

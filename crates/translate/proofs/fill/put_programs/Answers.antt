@@ -1,4 +1,4 @@
-use Rattle.std.proofs.Common.{◌≡◌, ℕ, ◌+◌, ◌-◌, List, [], map, length, set, sym, refl, ap, ◌∙◌, ap₂, arith, length-set}
+use Rattle.std.proofs.Common.{◌≡◌, ℕ, ◌+◌, ◌-◌, List, map, length, set, sym, ap, ◌∙◌, ap₂, arith, length-set}
 use Rattle.netcode.specs.declared.step.Step.{Step}
 use Rattle.netcode.specs.Layouts.{program_count}
 use Rattle.translate.specs.Stores.{stored, steps_of}
@@ -6,8 +6,8 @@ use Rattle.translate.specs.Translation.{program_code, programs_from}
 use Rattle.translate.proofs.Fills.{none, length_more, steps-more, lengths-more}
 use Rattle.translate.proofs.fill.put_programs.Goals as goal
 
-pub put-program-end-requires : goal.put-program-end-requires
-put-program-end-requires c =
+pub put_program-end-requires : goal.put_program-end-requires
+put_program-end-requires c =
     let l = c.loop-program in
     let m = length_more c.args.cycle c.args.rows.now l.program (program_count c.args.stations) (omega arith) in
     let i3 = l.invariant.3 in
@@ -19,13 +19,13 @@ loop-program-preserved c =
     let rows = c.args.rows.now in
     let n = program_count c.args.stations in
     let q = programs_from c.args.cycle rows (l.program + 1) (n - (l.program + 1)) in
-    let b = c.put-program-end.ensures in
+    let b = c.put_program-end.ensures in
     let e = b.end in
     let m = length_more c.args.cycle rows l.program n (omega arith) in
-    let k = c.put-program-end.auto.steps in
+    let k = c.put_program-end.auto.steps in
     let i2 = l.invariant.2 in
     let i3 = l.invariant.3 in
-    let z : c.put-program-end.result - l.at ≡ length (program_code c.args.cycle rows l.program) = omega arith in (
+    let z : c.put_program-end.result - l.at ≡ length (program_code c.args.cycle rows l.program) = omega arith in (
       l.invariant.0 ∙ steps-more c.args.cycle rows l.program n l.at l.steps (omega arith)
           ∙ ap₂ (λ (xs : List Step) (a : ℕ). stored xs a (steps_of q)) (sym b.list) (sym e),
       l.invariant.1 ∙ lengths-more c.args.cycle rows l.program n l.lengths (omega arith)

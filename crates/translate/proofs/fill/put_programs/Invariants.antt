@@ -1,4 +1,4 @@
-use Rattle.std.proofs.Common.{◌≡◌, ◌+◌, ◌-◌, ◌*◌, ◌≤◌, map, length, replicate}
+use Rattle.std.proofs.Common.{◌≡◌, ◌+◌, ◌-◌, ◌≤◌, map, length, replicate}
 use Rattle.netcode.specs.Layouts.{program_count}
 use Rattle.translate.specs.Stores.{stored, steps_of}
 use Rattle.translate.specs.Translation.{programs_from}

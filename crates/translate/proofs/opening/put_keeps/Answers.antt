@@ -1,4 +1,4 @@
-use Rattle.std.proofs.Common.{◌≡◌, ℕ, suc, ◌+◌, ◌<◌, ◌≤◌, List, length, sym, ap, ◌∙◌, ap₂, arith}
+use Rattle.std.proofs.Common.{◌≡◌, ℕ, ◌+◌, List, length, sym, ap, ◌∙◌, ap₂, arith}
 use Rattle.netcode.specs.declared.step.Step.{Step}
 use Rattle.sheet.specs.Rows.{row_at}
 use Rattle.translate.specs.Stores.{stored}
@@ -11,8 +11,8 @@ loop-i-init c =
     let e = keeps-none c.args.rows.now c.args.program in
     (sym (ap (stored c.args.steps.now c.args.start) e), sym (ap (λ (xs : List Step). c.args.start + length xs) e ∙ omega arith))
 
-pub put-keep-at-requires : goal.put-keep-at-requires
-put-keep-at-requires c =
+pub put_keep-at-requires : goal.put_keep-at-requires
+put_keep-at-requires c =
     let rows = c.args.rows.now in
     let t = c.loop-i-test.true in
     let s = keeps-step rows c.args.program c.loop-i.i in
@@ -27,7 +27,7 @@ loop-i-preserved c =
     let rows = c.args.rows.now in
     let l = c.loop-i in
     let s = keeps-step rows c.args.program l.i in
-    let e = c.put-keep-at.ensures in
+    let e = c.put_keep-at.ensures in
     let i1 = l.invariant.1 in
     let f = e.end in (
       e.list

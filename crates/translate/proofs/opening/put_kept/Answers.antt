@@ -1,4 +1,4 @@
-use Rattle.std.proofs.Common.{◌≡◌, ℕ, ◌+◌, List, [], ◌∷◌, length, set, sym, ap, ◌∙◌, ap₂, arith}
+use Rattle.std.proofs.Common.{ℕ, ◌+◌, List, ◌∷◌, length, set, sym, ◌∙◌, ap₂, arith}
 use Rattle.netcode.specs.declared.step.Step.{Step}
 use Rattle.netcode.specs.declared.step.Step.TheVariants.{Clear}
 use Rattle.translate.specs.Stores.{stored}
@@ -11,8 +11,8 @@ returns c =
     let rows = c.args.rows.now in
     let ks = keeps_to rows c.args.program (length rows) in
     let gs = gives_to rows c.args.program (length rows) in
-    let k = c.put-keeps-at.ensures in
-    let g = c.put-gives.ensures in
+    let k = c.put_keeps-at.ensures in
+    let g = c.put_gives.ensures in
     let e = k.end in
     let f = g.end in
     record {

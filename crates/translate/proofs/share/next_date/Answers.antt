@@ -1,4 +1,4 @@
-use Rattle.std.proofs.Common.{◌≡◌, ℕ, suc, ◌+◌, min, Bool, cond, ◌&&◌, leb, length, sym, refl, ap, ◌∙◌, add-one, arith}
+use Rattle.std.proofs.Common.{◌≡◌, ℕ, min, cond, ◌&&◌, leb, length, sym, ap, ◌∙◌, add-one, arith}
 use Rattle.sheet.specs.Rows.{row_at}
 use Rattle.translate.specs.Translation.{belongs, date_of, first_among, first_date}
 use Rattle.translate.proofs.Dates.{first-none, first_more, first-top, first-least, first-date}

@@ -11,7 +11,7 @@ loop-i-preserved c =
     let rows = c.args.rows.now in
     let p = c.args.program in
     let i = c.loop-i.i in
-    let k = c.keep-length-count.ensures in (
+    let k = c.keep_length-count.ensures in (
       keeps-more 0 rows p i c.loop-i.count _ c.loop-i.invariant.0 (k.keep i),
       gives_more 0 rows p i c.loop-i.count _ c.loop-i.invariant.1 (k.give i),
       omega (arith, c.loop-i.invariant.2, k.few),

@@ -1,4 +1,4 @@
-use Rattle.std.proofs.Common.{◌≡◌, ℕ, ◌≤◌, length}
+use Rattle.std.proofs.Common.{◌≡◌, ◌≤◌, length}
 use Rattle.translate.specs.Translation.{keeps_to, gives_to}
 use Rattle.translate.proofs.sizes.keep_count.Given as goal
 

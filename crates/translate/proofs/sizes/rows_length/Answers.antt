@@ -1,4 +1,4 @@
-use Rattle.std.proofs.Common.{◌≡◌, ℕ, length, sym, ap, ◌∙◌, arith}
+use Rattle.std.proofs.Common.{◌≡◌, length, sym, ap, ◌∙◌, arith}
 use Rattle.translate.specs.Translation.{rows_length}
 use Rattle.translate.proofs.Lengths.{rows_none, rows_more}
 use Rattle.translate.proofs.sizes.rows_length.Goals as goal
@@ -8,7 +8,7 @@ loop-i-init c = ((λ cycle. sym (rows_none cycle c.args.rows.now c.args.program 
 
 pub loop-i-preserved : goal.loop-i-preserved
 loop-i-preserved c = (
-  (λ cycle. rows_more cycle c.args.rows.now c.args.program c.args.date c.loop-i.i c.loop-i.sum _ (c.loop-i.invariant.0 cycle) c.due-length-sum.ensures.length),
+  (λ cycle. rows_more cycle c.args.rows.now c.args.program c.args.date c.loop-i.i c.loop-i.sum _ (c.loop-i.invariant.0 cycle) c.due_length-sum.ensures.length),
   omega (arith, c.loop-i.invariant.1),
 )
 

@@ -1,8 +1,6 @@
-use Rattle.std.proofs.Common.{◌≡◌, ℕ, List, length, vec_items, vec_len, sym, ap, ◌∙◌, subst, arith, length-take}
+use Rattle.std.proofs.Common.{length, vec_items, vec_len, sym, ap, ◌∙◌, subst, arith, length-take}
 use Rattle.std.proofs.lemmas.List.{with_items_is}
 use Rattle.sheet.specs.declared.row.Head.{Head}
-use Rattle.sheet.specs.declared.row.Row.{Row}
-use Rattle.judge.specs.Rules.{Rules}
 use Rattle.stages.specs.Views.{accepted_head, accepted_rows, accepted_within}
 use Rattle.translate.specs.Stores.{Bounded}
 use Rattle.translate.proofs.Judging.{bounded}
@@ -19,10 +17,10 @@ lay-requires c =
 pub returns : goal.returns
 returns c =
     let e = c.lay.ensures in
-    let l = c.as-mut-slice.ensures.len in
-    let v = c.as-mut-slice.ensures.value in
+    let l = c.as_mut_slice.ensures.len in
+    let v = c.as_mut_slice.ensures.value in
     let h = c.head.ensures in
     let r = c.rows.ensures.same in
     let vec = c.args.steps.now in
-    laid_in (accepted_head c.args.sheet.now) (accepted_rows c.args.sheet.now) c.head.result c.rows.result.now (vec_items vec) c.as-mut-slice.result.now c.lay.new.steps _ (vec_len vec) c.lay.result
+    laid_in (accepted_head c.args.sheet.now) (accepted_rows c.args.sheet.now) c.head.result c.rows.result.now (vec_items vec) c.as_mut_slice.result.now c.lay.new.steps _ (vec_len vec) c.lay.result
     h r v l e.layout e.list (with_items_is vec c.lay.new.steps (omega arith))

@@ -41,26 +41,26 @@ pub returns-then-left-eq0-2 : goal.returns-then-left-eq0-2
 returns-then-left-eq0-2 t c =
     record { value = sym (step-over c.args.left c.args.first c.args.bytes.now c.args.at (omega arith) (omega arith) (omega arith)); bound = tt }
 
-pub returns-in-err-high : goal.returns-in-err-high
-returns-in-err-high t c =
+pub returns-in_err-high : goal.returns-in_err-high
+returns-in_err-high t c =
     let s = step-high c.args.left c.args.first c.args.bytes.now c.args.at (omega arith) (omega arith) (omega arith) in
-    let p = err_from_is_err_and c.from-residual.result c.from-residual.ensures.1 in
-    let v : Err c.in-err-high.field-0.0 ≡ under (get_or c.args.bytes.now c.args.at 0 - 128) (numeral (c.args.left - 1) false (drop (c.args.at + 1) c.args.bytes.now)) =
-    ap (under (get_or c.args.bytes.now c.args.at 0 - 128)) c.in-err-high.ensures.value in
+    let p = err_from_is_err_and c.from_residual.result c.from_residual.ensures.1 in
+    let v : Err c.in_err-high.field-0.0 ≡ under (get_or c.args.bytes.now c.args.at 0 - 128) (numeral (c.args.left - 1) false (drop (c.args.at + 1) c.args.bytes.now)) =
+    ap (under (get_or c.args.bytes.now c.args.at 0 - 128)) c.in_err-high.ensures.value in
     rw (p.1, p.2) record { value = v ∙ sym s; bound = tt }
 
-pub overflow-mul-result : goal.overflow-mul-result
-overflow-mul-result t c = omega (arith, c.in-ok-high.ensures.bound, limit-most (c.args.left - 1) (omega arith))
+pub overflow_mul-result : goal.overflow_mul-result
+overflow_mul-result t c = omega (arith, c.in_ok-high.ensures.bound, limit-most (c.args.left - 1) (omega arith))
 
-pub overflow-add-result : goal.overflow-add-result
-overflow-add-result t c = omega (arith, c.in-ok-high.ensures.bound, limit-most (c.args.left - 1) (omega arith))
+pub overflow_add-result : goal.overflow_add-result
+overflow_add-result t c = omega (arith, c.in_ok-high.ensures.bound, limit-most (c.args.left - 1) (omega arith))
 
 pub returns : goal.returns
 returns t c =
     let s = step c.args.left c.args.first c.args.bytes.now c.args.at (omega arith) in
-    let v : Ok (get_or c.args.bytes.now c.args.at 0 - 128 + 128 * c.in-ok-high.high, c.in-ok-high.count + 1) ≡ under (get_or c.args.bytes.now c.args.at 0 - 128) (numeral (c.args.left - 1) false (drop (c.args.at + 1) c.args.bytes.now)) =
-    ap (under (get_or c.args.bytes.now c.args.at 0 - 128)) c.in-ok-high.ensures.value in
+    let v : Ok (get_or c.args.bytes.now c.args.at 0 - 128 + 128 * c.in_ok-high.high, c.in_ok-high.count + 1) ≡ under (get_or c.args.bytes.now c.args.at 0 - 128) (numeral (c.args.left - 1) false (drop (c.args.at + 1) c.args.bytes.now)) =
+    ap (under (get_or c.args.bytes.now c.args.at 0 - 128)) c.in_ok-high.ensures.value in
     record {
       value = grind arith;
-      bound = (omega (arith, c.in-ok-high.ensures.bound, limit-more c.args.left (omega arith)), omega (arith, c.in-ok-high.ensures.bound));
+      bound = (omega (arith, c.in_ok-high.ensures.bound, limit-more c.args.left (omega arith)), omega (arith, c.in_ok-high.ensures.bound));
     }

@@ -1,11 +1,11 @@
-use Rattle.std.proofs.Common.{◌≡◌, ℕ, ◌+◌, ◌≤◌, List, ◌++◌, length, get_or, take, drop, sym, ap, ◌∙◌, subst, add-zero, arith, length-append}
+use Rattle.std.proofs.Common.{◌≡◌, ℕ, ◌+◌, ◌≤◌, List, ◌++◌, length, get_or, take, drop, sym, ap, ◌∙◌, add-zero, arith, length-append}
 use Rattle.std.proofs.lemmas.List.{take_all}
 use Rattle.wire.specs.Bytes.{spelled, bytes_of, placed}
 use Rattle.wire.proofs.Laid.{spelled-more, spelled-split, spelled-first, placed-more, nothing_placed}
 use Rattle.wire.proofs.writer.lay.Goals as goal
 
-pub put-fitting-next-requires : goal.put-fitting-next-requires
-put-fitting-next-requires c =
+pub put_fitting-next-requires : goal.put_fitting-next-requires
+put_fitting-next-requires c =
     let ns = c.args.numbers.now in
     let i = c.loop-i.i in
     let o : length c.loop-i.out ≡ length c.args.out.now = omega arith in
@@ -24,8 +24,8 @@ loop-i-preserved c =
     let ys = bytes_of (get_or ns i 0) in
     let e : spelled (take (i + 1) ns) ≡ xs ++ ys = spelled-more ns i c.loop-i-test.true in
     let room : at + length xs + length ys ≤ length out = omega (arith, spelled-split ns i, spelled-first ns i c.loop-i-test.true, c.requires) in
-    let f = c.put-fitting-next.ensures in
-    let step : c.put-fitting-next.new.out ≡ placed (take at out ++ (xs ++ drop (at + length xs) out)) (at + length xs) ys =
+    let f = c.put_fitting-next.ensures in
+    let step : c.put_fitting-next.new.out ≡ placed (take at out ++ (xs ++ drop (at + length xs) out)) (at + length xs) ys =
     f.bytes ∙ ap (λ (zs : List ℕ). placed zs c.loop-i.next ys) c.loop-i.invariant.1 ∙ ap (λ (k : ℕ). placed (take at out ++ (xs ++ drop (at + length xs) out)) k ys) c.loop-i.invariant.0 in (
       omega (arith, f.end, c.loop-i.invariant.0, ap length e, length-append xs ys),
       step ∙ placed-more out at xs ys room ∙ ap (λ (zs : List ℕ). take at out ++ (zs ++ drop (at + length zs) out)) (sym e),

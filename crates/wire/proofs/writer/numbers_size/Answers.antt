@@ -1,4 +1,4 @@
-use Rattle.std.proofs.Common.{◌≡◌, ℕ, ◌<◌, List, length, get_or, take, sym, ap, ◌∙◌, arith, length-append}
+use Rattle.std.proofs.Common.{ℕ, List, length, get_or, take, ap, ◌∙◌, arith, length-append}
 use Rattle.std.proofs.lemmas.List.{take_all}
 use Rattle.wire.specs.Bytes.{spelled, bytes_of}
 use Rattle.wire.proofs.Laid.{spelled-more}
@@ -9,7 +9,7 @@ loop-i-preserved c =
     let ns = c.args.numbers.now in
     let i = c.loop-i.i in
     let e = ap length (spelled-more ns i c.loop-i-test.true) ∙ length-append (spelled (take i ns)) (bytes_of (get_or ns i 0)) in
-    (omega (arith, e, c.loop-i.invariant.0, c.number-bytes-count.ensures.count), omega (arith, c.loop-i.invariant.1, c.number-bytes-count.ensures.few))
+    (omega (arith, e, c.loop-i.invariant.0, c.number_bytes-count.ensures.count), omega (arith, c.loop-i.invariant.1, c.number_bytes-count.ensures.few))
 
 pub returns : goal.returns
 returns c =

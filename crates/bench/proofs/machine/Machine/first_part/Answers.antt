@@ -1,9 +1,8 @@
-use Rattle.std.proofs.Common.{◌≡◌, ℕ, ◌+◌, ◌-◌, ◌<◌, ◌≤◌, List, [], ◌∷◌, length, get_or, take, drop, Ok, Err, sym, refl, ap, ◌∙◌, subst, arith, rules}
-use Rattle.netcode.specs.declared.step.Step.{Step}
+use Rattle.std.proofs.Common.{◌≡◌, ◌+◌, [], ◌∷◌, get_or, take, drop, Ok, Err, sym, refl, ap, ◌∙◌, subst, arith}
 use Rattle.netcode.specs.Layouts.{cuts, program_count, programs_of}
 use Rattle.netcode.specs.Laws.{Lawful}
 use Rattle.netcode.proofs.Cuts.{cut}
-use Rattle.semantics.specs.Machine.{World, Outcome, turn, first_part}
+use Rattle.semantics.specs.Machine.{World, Outcome, first_part}
 use Rattle.bench.specs.Shown.{world, Ready}
 use Rattle.bench.proofs.Kept.{out_state, ready-turn}
 use Rattle.bench.proofs.Loops.{head-is, tail-is, turn_on, first_ends, first-none}
@@ -24,7 +23,7 @@ turn-requires g c =
     let e : get_or ps i [] ≡ take n xs = head-is ps i _ _ h in
     record {
       unit = omega arith;
-      lawful = subst Lawful (e ∙ sym c.split-at.ensures.front) (c.requires.lawful i (omega arith));
+      lawful = subst Lawful (e ∙ sym c.split_at.ensures.front) (c.requires.lawful i (omega arith));
       ready = c.loop-program.invariant.0;
     }
 
@@ -40,7 +39,7 @@ returns-in-Err g c =
     let h : drop i ps ≡ take n xs ∷ cuts (drop (i + 1) (take count ns)) (drop n xs) = c.loop-program.invariant.1 ∙ cut ns count i n xs (omega arith) (omega arith) c.min-length.ensures in
     let e : get_or ps i [] ≡ take n xs = head-is ps i _ _ h in
     first_ends m ps (i + 1) count _ _ c.in-Err.fault (omega arith)
-    (turn_on m ps i _ _ _ _ (Err c.in-Err.fault) c.loop-program.invariant.2 (e ∙ sym c.split-at.ensures.front) c.in-Err.ensures)
+    (turn_on m ps i _ _ _ _ (Err c.in-Err.fault) c.loop-program.invariant.2 (e ∙ sym c.split_at.ensures.front) c.in-Err.ensures)
 
 pub loop-program-preserved : goal.loop-program-preserved
 loop-program-preserved g c =
@@ -54,10 +53,10 @@ loop-program-preserved g c =
     let w : World m.State = world c.loop-program.self.state (g.P.Plant.meaning c.loop-program.plant) in
     let h : drop i ps ≡ take n xs ∷ cuts (drop (i + 1) (take count ns)) (drop n xs) = c.loop-program.invariant.1 ∙ cut ns count i n xs (omega arith) (omega arith) c.min-length.ensures in
     let e : get_or ps i [] ≡ take n xs = head-is ps i _ _ h in
-    let t = c.in-default.ensures in (
+    let t = c.in_default.ensures in (
       subst (λ (o : Outcome m.State). Ready (i + 1) (out_state o)) (sym t) (ready-turn m _ i w (omega arith) c.loop-program.invariant.0),
-      tail-is ps i _ _ h ∙ ap (cuts (drop (i + 1) (take count ns))) (sym c.split-at.ensures.back),
-      turn_on m ps i _ w _ _ (Ok tt) c.loop-program.invariant.2 (e ∙ sym c.split-at.ensures.front) t,
+      tail-is ps i _ _ h ∙ ap (cuts (drop (i + 1) (take count ns))) (sym c.split_at.ensures.back),
+      turn_on m ps i _ w _ _ (Ok tt) c.loop-program.invariant.2 (e ∙ sym c.split_at.ensures.front) t,
     )
 
 pub returns : goal.returns

@@ -1,4 +1,4 @@
-use Rattle.std.proofs.Common.{◌≡◌, ℕ, ◌+◌, length, Ok, Err, sym, ap, ◌∙◌}
+use Rattle.std.proofs.Common.{◌+◌, Ok, Err, ap, ◌∙◌}
 use Rattle.netcode.specs.Layouts.{program_count, programs_of}
 use Rattle.semantics.specs.declared.state.State.{State}
 use Rattle.semantics.specs.Machine.{World, Outcome, second_part}
@@ -13,25 +13,25 @@ returns-in-Err g c =
     (world c.args.self.now.state (g.P.Plant.meaning c.args.plant.now)) _ c.in-Err.fault
     (length-programs c.args.layout.now c.args.steps.now c.requires.shape) c.in-Err.ensures
 
-pub returns-in-Err-second-part : goal.returns-in-Err-second-part
-returns-in-Err-second-part g c =
+pub returns-in-Err-second_part : goal.returns-in-Err-second_part
+returns-in-Err-second_part g c =
     let m = g.P.Plant.model in
     let ps = programs_of c.args.layout.now c.args.steps.now in
-    let p = g.P.Plant.meaning c.first-part.new.plant in
-    let v : World m.State = world c.first-part.new.self.state p in
+    let p = g.P.Plant.meaning c.first_part.new.plant in
+    let v : World m.State = world c.first_part.new.self.state p in
     second-came m ps (program_count c.args.layout.now.stations)
-    (world c.args.self.now.state (g.P.Plant.meaning c.args.plant.now)) v (world c.second-part.new.self.state p) (Err c.in-Err-second-part.fault)
-    (length-programs c.args.layout.now c.args.steps.now c.requires.shape) c.in-default.ensures
-    (c.in-Err-second-part.ensures ps p ∙ ap (λ n. second_part m ps (c.args.self.now.state.granted + 1) n v) c.program-count-count.ensures.count)
+    (world c.args.self.now.state (g.P.Plant.meaning c.args.plant.now)) v (world c.second_part.new.self.state p) (Err c.in-Err-second_part.fault)
+    (length-programs c.args.layout.now c.args.steps.now c.requires.shape) c.in_default.ensures
+    (c.in-Err-second_part.ensures ps p ∙ ap (λ n. second_part m ps (c.args.self.now.state.granted + 1) n v) c.program_count-count.ensures.count)
 
 pub returns : goal.returns
 returns g c =
     let m = g.P.Plant.model in
     let ps = programs_of c.args.layout.now c.args.steps.now in
-    let p = g.P.Plant.meaning c.first-part.new.plant in
-    let v : World m.State = world c.first-part.new.self.state p in
-    ap (λ (s : State). Outcome.done (world s p)) c.free-line.ensures
+    let p = g.P.Plant.meaning c.first_part.new.plant in
+    let v : World m.State = world c.first_part.new.self.state p in
+    ap (λ (s : State). Outcome.done (world s p)) c.free_line.ensures
     ∙ second-came m ps (program_count c.args.layout.now.stations)
-    (world c.args.self.now.state (g.P.Plant.meaning c.args.plant.now)) v (world c.second-part.new.self.state p) (Ok tt)
-    (length-programs c.args.layout.now c.args.steps.now c.requires.shape) c.in-default.ensures
-    (c.in-default-second-part.ensures ps p ∙ ap (λ n. second_part m ps (c.args.self.now.state.granted + 1) n v) c.program-count-count.ensures.count)
+    (world c.args.self.now.state (g.P.Plant.meaning c.args.plant.now)) v (world c.second_part.new.self.state p) (Ok tt)
+    (length-programs c.args.layout.now c.args.steps.now c.requires.shape) c.in_default.ensures
+    (c.in_default-second_part.ensures ps p ∙ ap (λ n. second_part m ps (c.args.self.now.state.granted + 1) n v) c.program_count-count.ensures.count)

@@ -1,4 +1,4 @@
-use Rattle.std.proofs.Common.{◌≡◌, ℕ, ◌+◌, Ok, Err, sym, ap, ◌∙◌, arith}
+use Rattle.std.proofs.Common.{◌≡◌, ◌+◌, Ok, Err, ap, ◌∙◌, arith}
 use Rattle.semantics.specs.Machine.{second_part}
 use Rattle.bench.specs.Shown.{world}
 use Rattle.bench.proofs.Loops.{second_none, end_on, second-ends}
@@ -15,7 +15,7 @@ returns-in-Err g c ps p =
 
 pub loop-program-preserved : goal.loop-program-preserved
 loop-program-preserved g c ps p =
-    end_on g.P.Plant.model ps c.args.clock c.loop-program.program _ (world c.loop-program.self.state p) _ (Ok tt) (c.loop-program.invariant ps p) (c.in-default.ensures p)
+    end_on g.P.Plant.model ps c.args.clock c.loop-program.program _ (world c.loop-program.self.state p) _ (Ok tt) (c.loop-program.invariant ps p) (c.in_default.ensures p)
 
 pub returns : goal.returns
 returns g c ps p =

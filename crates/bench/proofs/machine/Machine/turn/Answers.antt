@@ -1,5 +1,4 @@
-use Rattle.std.proofs.Common.{sym, subst, rules}
-use Rattle.semantics.specs.Machine.{with_timer, unit_in}
+use Rattle.std.proofs.Common.{sym, subst}
 use Rattle.bench.specs.Shown.{Ready}
 use Rattle.bench.proofs.Kept.{kept-timer, ready-kept}
 use Rattle.bench.proofs.machine.Machine.turn.Goals as goal
@@ -8,5 +7,5 @@ pub run-requires : goal.run-requires
 run-requires g c = record {
   unit = c.requires.unit;
   lawful = c.requires.lawful;
-  ready = subst (Ready c.args.program) (sym c.set-timer.ensures) (ready-kept _ _ _ (kept-timer c.args.program c.args.self.now.state _ _ (rw c.requires.ready.units c.requires.unit)) c.requires.ready);
+  ready = subst (Ready c.args.program) (sym c.set_timer.ensures) (ready-kept _ _ _ (kept-timer c.args.program c.args.self.now.state _ _ (rw c.requires.ready.units c.requires.unit)) c.requires.ready);
 }

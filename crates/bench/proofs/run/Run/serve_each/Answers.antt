@@ -1,12 +1,11 @@
-use Rattle.std.proofs.Common.{◌≡◌, List, length, get_or, sym, refl, ap, ◌∙◌, arith, rules}
+use Rattle.std.proofs.Common.{◌≡◌, List, get_or, refl, ap, ◌∙◌, arith}
 use Rattle.std.proofs.lemmas.List.Edits.{paste_none}
-use Rattle.std.proofs.lemmas.Bool.{lt-ltb}
 use Rattle.netcode.specs.declared.step.Step.{Step}
 use Rattle.semantics.specs.declared.state.Request.TheVariants.{Tick}
 use Rattle.semantics.specs.Machine.{World}
 use Rattle.semantics.specs.Requests.{served, served_all}
 use Rattle.bench.specs.Replies.{replied}
-use Rattle.bench.specs.Runs.{programs_in, world_in, SamePrograms}
+use Rattle.bench.specs.Runs.{programs_in, world_in}
 use Rattle.bench.proofs.Rehearsals.{same_then, same-programs}
 use Rattle.bench.proofs.Lists.{left-none, left-more, pasted-more, all-served}
 use Rattle.bench.proofs.run.Run.serve_each.Goals as goal

@@ -1,7 +1,7 @@
-use Rattle.std.proofs.Common.{◌≡◌, List, sym, refl, ap, ◌∙◌, arith}
+use Rattle.std.proofs.Common.{List, sym, refl, ap, ◌∙◌, arith}
 use Rattle.netcode.specs.declared.step.Step.{Step}
 use Rattle.semantics.specs.Machine.{World, tick}
-use Rattle.bench.specs.Runs.{programs_in, world_in, SamePrograms}
+use Rattle.bench.specs.Runs.{programs_in, world_in}
 use Rattle.bench.proofs.Rehearsals.{same_then, same-programs, none_made, tick-made, tick-refused, all_made}
 use Rattle.bench.proofs.run.Run.ticks.Goals as goal
 
@@ -22,7 +22,7 @@ returns-in-Err g c =
 pub loop-count-preserved : goal.loop-count-preserved
 loop-count-preserved g c =
     let m = g.P.Plant.model in
-    let h = c.in-default.ensures in
+    let h = c.in_default.ensures in
     let w : World m.State = world_in c.loop-count.self (g.P.Plant.meaning c.loop-count.plant) in
     let e = h.outcome ∙ ap (λ (ps : List (List Step)). tick m ps w) (same-programs _ _ c.loop-count.invariant.0) in
     (same_then _ _ _ c.loop-count.invariant.0 h.programs, tick-made m (programs_in c.args.self.now) c.args.n c.loop-count.count w _ _ c.loop-count.invariant.1 c.loop-count-test.true e)

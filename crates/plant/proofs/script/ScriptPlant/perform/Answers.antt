@@ -12,8 +12,8 @@ returns c =
     let known : knows script w ≡ true =
     ap (script.known c.args.station c.args.work) (sym c.count.ensures) ∙ sym c.if-not-knows.ensures in
     record {
-      answer = word-taken _ c.args.self.now.from w known c.if-work-eq1.false _ c.next-word-word.ensures.word;
+      answer = word-taken _ c.args.self.now.from w known c.if-work-eq1.false _ c.next_word-word.ensures.word;
       word = omega arith;
-      state = ap (λ (cs : List Cursor). unused_from c.args.self.now.bytes.now 0 cs) c.put-cursor.ensures
-          ∙ word-used c.args.self.now.bytes.now c.args.self.now.from w known c.if-work-eq1.false _ c.next-word-word.ensures.later;
+      state = ap (λ (cs : List Cursor). unused_from c.args.self.now.bytes.now 0 cs) c.put_cursor.ensures
+          ∙ word-used c.args.self.now.bytes.now c.args.self.now.from w known c.if-work-eq1.false _ c.next_word-word.ensures.later;
     }
