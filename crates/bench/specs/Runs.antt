@@ -23,7 +23,7 @@ pub record SamePrograms (before after : Run) : Type 0 where
   pub layout : after.layout ≡ before.layout
   pub steps : vec_items after.steps ≡ vec_items before.steps
 
--- The answers of word-at and mark_at, as replies.
+-- The answers of word-at and mark-at, as replies.
 abbrev pub word_answer : Result (Option ℕ) (Fault AskedPlace) → Reply
 word_answer (Ok word) = Word word
 word_answer (Err fault) = outside_reply fault

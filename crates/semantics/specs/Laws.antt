@@ -46,7 +46,7 @@ module _ (m : Model) (programs : List (List Step)) where
     -- A unit performs at most one call or send in a tick, so that counts stay far below 32 bits.
     pub bounded : length programs ≤ 16 → (start : m.State) (rs : List Request)
         → CountsWithin (16 * ((after_requests m programs start rs).state.granted + 1)) (after_requests m programs start rs).state
-    -- Word-at and mark_at change nothing.
+    -- Word-at and mark-at change nothing.
     pub word_at : (w : World m.State) (station variable : ℕ) → (served m programs (WordAt station variable) w).world ≡ w
     pub mark_at : (w : World m.State) (row : ℕ) → (served m programs (MarkAt row) w).world ≡ w
     -- The plant's state is what the performed calls leave, and a row's count is how often the row was performed.
