@@ -1,4 +1,4 @@
-use Rattle.std.specs.Prelude.{ℕ, Bool, ◌&&◌, List, [], ◌∷◌, nat_lt, slice_index_or}
+use Rattle.std.specs.Prelude.{ℕ, Bool, true, ◌&&◌, List, [], ◌∷◌, nat_lt, slice_index_or}
 use Rattle.sheet.specs.declared.row.Head.{Head}
 use Rattle.sheet.specs.declared.row.Relation.{Relation}
 use Rattle.sheet.specs.declared.row.Relation.TheVariants.{Equal, Unequal}
@@ -23,6 +23,17 @@ abbrev pub inputs_of : Inputs → List ℕ
 inputs_of Nothing = []
 inputs_of (Single a) = a ∷ []
 inputs_of (Pair a b) = a ∷ b ∷ []
+
+-- Whether each variable is below a limit.
+abbrev pub all_below : ℕ → List ℕ → Bool
+all_below n [] = true
+all_below n (v ∷ vs) = nat_lt v n && all_below n vs
+
+-- The condition of a row; a keep row has none.
+abbrev pub condition_of : Row → Condition
+condition_of (keep_row k) = Always
+condition_of (call_row c) = c.condition
+condition_of (send_row s) = s.condition
 
 -- The number of each relation, and of each kind of row.
 abbrev pub relation_code : Relation → ℕ

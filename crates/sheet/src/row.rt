@@ -1,3 +1,9 @@
+ghost use Rattle.std.specs.Prelude.{◌≡◌, length};
+ghost use Rattle.arrayvec.specs.ArrayVec.{array_vec_len};
+ghost use Rattle.sheet.specs.Rows.{tests_of, inputs_of, all_below, condition_of, no_row};
+
+use arrayvec::ArrayVec;
+
 // What a sheet says of itself before its rows: how many stations, variables, ticks in a cycle, and rows.
 #[derive(Clone, Copy, PartialEq)]
 pub struct Head {
@@ -8,13 +14,14 @@ pub struct Head {
 }
 
 // How a test compares a variable's word with its own.
-#[derive(Clone, Copy, PartialEq)]
+#[derive(Clone, Copy, PartialEq, Default)]
 pub enum Relation {
+    #[default]
     Equal,
     Unequal,
 }
 
-#[derive(Clone, Copy, PartialEq)]
+#[derive(Clone, Copy, PartialEq, Default)]
 pub struct Test {
     pub variable: u32,
     pub relation: Relation,
@@ -41,7 +48,7 @@ pub enum Inputs {
 
 // A word kept from one cycle to the next: what `taken` holds at the end of a cycle, `given` holds in the
 // next one; `first` stands in where nothing was kept yet.
-#[derive(Clone, Copy, PartialEq)]
+#[derive(Clone, Copy, PartialEq, Default)]
 pub struct Keep {
     pub station: u32,
     pub taken: u32,
@@ -77,4 +84,79 @@ pub enum Row {
     Keep(Keep),
     Call(Call),
     Send(Send),
+}
+
+impl Condition {
+    // The tests, in their order.
+    pub fn tests(self) -> ArrayVec<Test, 4>
+        ensures { result.items ≡ tests_of self }
+    {
+        let mut tests = ArrayVec::new();
+        match self {
+            Condition::Always => {}
+            Condition::One(a) => tests.push(a),
+            Condition::Two(a, b) => {
+                tests.push(a);
+                tests.push(b);
+            }
+            Condition::Three(a, b, c) => {
+                tests.push(a);
+                tests.push(b);
+                tests.push(c);
+            }
+            Condition::Four(a, b, c, d) => {
+                tests.push(a);
+                tests.push(b);
+                tests.push(c);
+                tests.push(d);
+            }
+        }
+        tests
+    }
+}
+
+impl Inputs {
+    // How many variables there are.
+    pub fn count(self) -> u32
+        ensures { result ≡ length (inputs_of self) }
+    {
+        match self {
+            Inputs::Nothing => 0,
+            Inputs::Single(_) => 1,
+            Inputs::Pair(_, _) => 2,
+        }
+    }
+
+    // Whether each variable is below a limit.
+    pub fn all_below(self, limit: u32) -> bool
+        ensures { result ≡ all_below limit (inputs_of self) }
+    {
+        match self {
+            Inputs::Nothing => true,
+            Inputs::Single(a) => a < limit,
+            Inputs::Pair(a, b) => a < limit && b < limit,
+        }
+    }
+}
+
+impl Row {
+    // The tests that must hold for the row to be performed; a keep row has none.
+    pub fn condition(self) -> Condition
+        ensures { result ≡ condition_of self }
+    {
+        match self {
+            Row::Keep(_) => Condition::Always,
+            Row::Call(c) => c.condition,
+            Row::Send(s) => s.condition,
+        }
+    }
+}
+
+// A row that says nothing, to fill a list with: a keep row of zeros.
+impl Default for Row {
+    ghost is_default = { λ r. r ≡ no_row };
+
+    fn default() -> Row {
+        Row::Keep(Keep::default())
+    }
 }
