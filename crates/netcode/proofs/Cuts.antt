@@ -1,11 +1,7 @@
-use Rattle.std.proofs.Common.{◌≡◌, ℕ, ◌+◌, ◌<◌, ◌≤◌, min, List, [], ◌∷◌, length, get_or, take, drop, Option, inl, inr, arith}
+use Rattle.std.proofs.Common.{◌≡◌, ℕ, ◌+◌, ◌<◌, ◌≤◌, min, List, [], ◌∷◌, length, get_or, take, drop, refl, inl, inr, arith}
 use Rattle.std.proofs.lemmas.List.{drop_more, get_or-take, length-take, take_all, drop_all, at_drop_all}
 use Rattle.std.proofs.lemmas.Bool.{cases_lt}
-use Rattle.fault.specs.declared.refusal.Fault.{Fault}
-use Rattle.fault.specs.declared.place.StepPlace.{StepPlace}
-use Rattle.netcode.specs.declared.step.Step.{Step}
 use Rattle.netcode.specs.Layouts.{cuts}
-use Rattle.netcode.specs.Rules.{broken_program, first_broken, or_next}
 
 take_min : {X : Type 0} (n : ℕ) (xs : List X) → take (min n (length xs)) xs ≡ take n xs
 take_min n xs =
@@ -31,8 +27,9 @@ cut ns count i n xs h l e =
 pub cut_all : {X Y : Type 0} (F : List (List X) → Y) (ns : List ℕ) (count i : ℕ) (xs : List X) → count ≤ i → F (cuts (drop i (take count ns)) xs) ≡ F []
 cut_all F ns count i xs h = at_drop_all (λ (ms : List ℕ). F (cuts ms xs)) (take count ns) i (simp length-take (omega arith))
 
--- The verdict on the programs from the one at `i` on.
-pub judged : (ns : List ℕ) (count i n : ℕ) (xs ys zs : List Step) (o : Option (Fault StepPlace))
-    → i < count → i < length ns → n ≡ min (get_or ns i 0) (length xs) → ys ≡ take n xs → zs ≡ drop n xs → o ≡ broken_program i ys
-    → first_broken i (cuts (drop i (take count ns)) xs) ≡ or_next o (first_broken (i + 1) (cuts (drop (i + 1) (take count ns)) zs))
-judged ns count i n xs ys zs o h l e p q r = rw (cut ns count i n xs h l e, ← p, ← q, r)
+-- There is a part for each length.
+pub length-cuts : {X : Type 0} (ns : List ℕ) (xs : List X) → length (cuts ns xs) ≡ length ns
+length-cuts [] xs = refl
+length-cuts (n ∷ ns) xs = grind (arith, length-cuts ns (drop n xs))
+
+pub ruleset cut_lengths = length-cuts

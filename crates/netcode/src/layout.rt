@@ -1,5 +1,7 @@
-ghost use Rattle.std.specs.Prelude.{◌≡◌, ◌≤◌};
+ghost use Rattle.std.specs.Prelude.{◌≡◌, ◌≤◌, length};
+ghost use Rattle.std.specs.Iterator.{YieldsFirstBy, item_count};
 ghost use Rattle.netcode.specs.Layouts.{program_count, work_program, line_program, station_of, programs_of};
+ghost use Rattle.netcode.specs.Programs.{programs_left};
 ghost use Rattle.netcode.specs.Rules.{first_broken};
 
 use crate::rules::check_program;
@@ -38,19 +40,53 @@ pub fn program_count(stations: u32) -> usize
     PER_STATION * stations.min(8) as usize
 }
 
-// Where programs break the rules: the first that does, and there its length or its first bad step.
-// The programs are the parts of the list that the layout cuts off from the front, shorter where the list
-// ends; steps after the last are in no program.
+// The programs that are still to come: their lengths, and the steps from the next one on.
+#[derive(Drop)]
+pub struct Programs<'a> {
+    lengths: &'a [usize],
+    steps: &'a [Step],
+}
+
+impl<'a> Iterator for Programs<'a> {
+    type Item = &'a [Step];
+
+    ghost next_gives = { YieldsFirstBy (λ x. x.now) programs_left };
+
+    ghost remaining = { item_count programs_left };
+
+    fn next(&mut self) -> Option<&'a [Step]> {
+        let (length, lengths) = self.lengths.split_first()?;
+        let (program, steps) = self.steps.split_at((*length).min(self.steps.len()));
+        self.lengths = lengths;
+        self.steps = steps;
+        Some(program)
+    }
+}
+
+impl Layout {
+    // The programs of a flat list of steps: the parts that the layout cuts off from the front, shorter where
+    // the list ends. Steps after the last are in no program.
+    #[tactic(auto, using(crate::proofs::Cuts::cut_lengths))]
+    pub fn programs<'a>(&'a self, steps: &'a [Step]) -> Programs<'a>
+        ensures programs { programs_left result ≡ programs_of self.now steps.now }
+        ensures few { length (programs_left result) ≤ 16 }
+    {
+        Programs {
+            lengths: &self.lengths[..program_count(self.stations)],
+            steps,
+        }
+    }
+}
+
+// Where the programs of a list of steps break the rules: the first that does, and there its length or its
+// first bad step.
 pub fn check(layout: &Layout, steps: &[Step]) -> Option<Fault<StepPlace>>
     ensures { result ≡ first_broken 0 (programs_of layout.now steps.now) }
 {
-    let mut rest = steps;
-    for number in 0..program_count(layout.stations) {
-        let length = layout.lengths[number].min(rest.len());
-        if let Some(fault) = check_program(number, &rest[0..length]) {
+    for (number, program) in layout.programs(steps).enumerate() {
+        if let Some(fault) = check_program(number, program) {
             return Some(fault);
         }
-        rest = &rest[length..];
     }
     None
 }

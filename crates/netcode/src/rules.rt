@@ -68,10 +68,7 @@ impl Step {
     pub fn is_halt(self) -> bool
         ensures { result ≡ is_halt self }
     {
-        match self {
-            Step::Halt => true,
-            _ => false,
-        }
+        matches!(self, Step::Halt)
     }
 
     // Whether the step may stand at `at` of a program of `count` steps.
@@ -90,11 +87,7 @@ impl Rule<usize> for Step {
     ghost broken = { broken_step };
 
     fn judge(&self, above: &[Step], ctx: &usize) -> Option<()> {
-        if self.stands(*ctx, above.len()) {
-            None
-        } else {
-            Some(())
-        }
+        (!self.stands(*ctx, above.len())).then_some(())
     }
 }
 
@@ -106,10 +99,7 @@ pub fn check_program(number: usize, steps: &[Step]) -> Option<Fault<StepPlace>>
     if !(0 < count && count < 2049) {
         return Some(broken_at(number, 0));
     }
-    match first_bad(steps, &count) {
-        Some((address, _)) => Some(broken_at(number, address)),
-        None => None,
-    }
+    first_bad(steps, &count).map(|(address, _)| broken_at(number, address))
 }
 
 fn broken_at(program: usize, address: usize) -> Fault<StepPlace>

@@ -5,10 +5,7 @@ use std::test::Fail;
 
 // Where the steps break the rules of a program, or nothing.
 fn breach(steps: &[Step]) -> Option<usize> {
-    match check_program(3, steps) {
-        Some(fault) => Some(fault.place.address),
-        None => None,
-    }
+    check_program(3, steps).map(|fault| fault.place.address)
 }
 
 #[test]
@@ -43,6 +40,7 @@ fn layouts(rt: HostRuntime) -> Result<(), Fail> {
         lengths,
     };
     assert!(rt; check_all(&layout, &[Step::Halt, Step::Clear, Step::Halt]).is_none());
+    assert_eq!(rt; layout.programs(&[Step::Halt]).count(), 2);
     let short = check_all(&layout, &[Step::Halt]).ok_or("no fault")?;
     assert_eq!(rt; (short.place.program, short.place.address), (1, 0));
     assert_eq!(rt; (work_program(3), line_program(3)), (6, 7));
