@@ -1,26 +1,14 @@
 ghost use Rattle.std.specs.Prelude.{◌≡◌};
-ghost use Rattle.netcode.specs.Rules.{tick_count, inputs_within, fields_within, is_halt, step_stands, broken_step, broken_at, broken_program};
+ghost use Rattle.netcode.specs.Rules.{tick_count, fields_within, is_halt, step_stands, broken_step, broken_at, broken_program};
 
 use crate::step::Step;
 use fault::{Fault, Refusal, Rule, StepPlace, first_bad};
-use sheet::Inputs;
 
 // Whether a number of ticks is within its limits.
 fn tick_count(n: u32) -> bool
     ensures { result ≡ tick_count n }
 {
     0 < n && n < 65536
-}
-
-// Whether the variables that a call reads are within their limits.
-fn inputs_within(inputs: Inputs) -> bool
-    ensures { result ≡ inputs_within inputs }
-{
-    match inputs {
-        Inputs::Nothing => true,
-        Inputs::Single(a) => a < 64,
-        Inputs::Pair(a, b) => a < 64 && b < 64,
-    }
 }
 
 impl Step {
@@ -45,7 +33,7 @@ impl Step {
                 duration,
             } => row < 128
                 && work < 256
-                && inputs_within(inputs)
+                && inputs.all_below(64)
                 && output < 64
                 && tick_count(duration),
             Step::Send {
