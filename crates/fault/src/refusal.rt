@@ -7,25 +7,25 @@ use crate::place::{BytesPlace, Offset};
 // Why something was refused. `number` gives the number by which people know it.
 #[derive(Clone, Copy, PartialEq)]
 pub enum Refusal {
-    EndsEarly,
-    NotShortest,
-    Strange,
-    TooShort,
-    Trailing,
-    HeadOutside,
-    Outside,
-    TestedTwice,
-    TwoWriters,
-    Clash,
-    Unavailable,
-    UnknownWork,
-    BrokenProgram,
-    LineCarrying,
-    NoMessage,
-    EmptyPlace,
-    UnitBusy,
-    LimitReached,
-    Stopped,
+    EndsEarly = 1,
+    NotShortest = 2,
+    Strange = 3,
+    TooShort = 4,
+    Trailing = 5,
+    HeadOutside = 6,
+    Outside = 7,
+    TestedTwice = 8,
+    TwoWriters = 9,
+    Clash = 10,
+    Unavailable = 11,
+    UnknownWork = 12,
+    BrokenProgram = 13,
+    LineCarrying = 14,
+    NoMessage = 15,
+    EmptyPlace = 16,
+    UnitBusy = 17,
+    LimitReached = 18,
+    Stopped = 19,
 }
 
 impl Refusal {
@@ -33,27 +33,7 @@ impl Refusal {
     pub fn number(self) -> u8
         ensures { result ≡ number_of self }
     {
-        match self {
-            Refusal::EndsEarly => 1,
-            Refusal::NotShortest => 2,
-            Refusal::Strange => 3,
-            Refusal::TooShort => 4,
-            Refusal::Trailing => 5,
-            Refusal::HeadOutside => 6,
-            Refusal::Outside => 7,
-            Refusal::TestedTwice => 8,
-            Refusal::TwoWriters => 9,
-            Refusal::Clash => 10,
-            Refusal::Unavailable => 11,
-            Refusal::UnknownWork => 12,
-            Refusal::BrokenProgram => 13,
-            Refusal::LineCarrying => 14,
-            Refusal::NoMessage => 15,
-            Refusal::EmptyPlace => 16,
-            Refusal::UnitBusy => 17,
-            Refusal::LimitReached => 18,
-            Refusal::Stopped => 19,
-        }
+        self as u8
     }
 }
 

@@ -18,8 +18,8 @@ pub fn first_bad<C, R: Rule<C>>(records: &[R], ctx: &C) -> Option<(usize, R::Why
     ensures value { result ≡ first_bad (λ i x. R.broken ctx.now (take i records.now) x) 0 records.now }
     ensures first { FirstBad (λ i x. R.broken ctx.now (take i records.now) x) records.now result }
 {
-    for i in 0..records.len() {
-        if let Some(why) = records[i].judge(&records[0..i], ctx) {
+    for (i, record) in records.iter().enumerate() {
+        if let Some(why) = record.judge(&records[..i], ctx) {
             return Some((i, why));
         }
     }

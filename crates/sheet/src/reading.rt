@@ -9,7 +9,7 @@ ghost use Rattle.sheet.specs.Theorems.{ReadExactly, OneSheetForm, OffsetsAlwaysT
 
 use crate::borrowed::read_row;
 use crate::parts::strange;
-use crate::row::{Head, Keep, Row};
+use crate::row::{Head, Row};
 use fault::{BytesPlace, Fault, Offset, Refusal};
 use wire::Reader;
 
@@ -53,8 +53,7 @@ fn read_whole_row(reader: &mut Reader) -> Result<Row, Fault<Offset>>
     ensures value { shown result reader.new.pos ≡ row_from reader.old.bytes.now reader.old.pos }
     ensures same { reader.new.bytes ≡ reader.old.bytes }
 {
-    let row = read_row(reader)?;
-    row.decode()
+    read_row(reader)?.decode()
 }
 
 // Reads `count` rows into the front of `all`.
@@ -62,8 +61,8 @@ fn gather(reader: &mut Reader, count: usize, all: &mut [Row]) -> Result<(), Faul
     requires { count ≤ length all.old }
     ensures { filled result (take count all.new) reader.new.pos ≡ rows_from count reader.old.bytes.now reader.old.pos }
 {
-    for i in 0..count {
-        all[i] = read_whole_row(reader)?;
+    for row in &mut all[..count] {
+        *row = read_whole_row(reader)?;
     }
     Ok(())
 }
@@ -105,12 +104,7 @@ pub fn read(bytes: &[u8], rows: &mut [Row]) -> Result<Head, Fault<BytesPlace>>
     if !head.within() {
         return Err(head_outside());
     }
-    let mut all = [Row::Keep(Keep {
-        station: 0,
-        taken: 0,
-        given: 0,
-        first: 0,
-    }); 128];
+    let mut all = [Row::default(); 128];
     gather(&mut reader, count, &mut all)?;
     let end = reader.pos();
     if end < bytes.len() {

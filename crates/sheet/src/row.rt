@@ -1,6 +1,6 @@
 ghost use Rattle.std.specs.Prelude.{◌≡◌, length};
-ghost use Rattle.arrayvec.specs.ArrayVec.{array_vec_len};
 ghost use Rattle.sheet.specs.Rows.{tests_of, inputs_of, all_below, condition_of, no_row};
+ghost use Rattle.sheet.specs.Parts.{inputs_numbers};
 
 use arrayvec::ArrayVec;
 
@@ -125,6 +125,23 @@ impl Inputs {
             Inputs::Single(_) => 1,
             Inputs::Pair(_, _) => 2,
         }
+    }
+
+    // The numbers that they are written as: how many there are, and each.
+    pub fn numbers(self) -> ArrayVec<u32, 3>
+        ensures { result.items ≡ inputs_numbers self }
+    {
+        let mut numbers = ArrayVec::new();
+        numbers.push(self.count());
+        match self {
+            Inputs::Nothing => {}
+            Inputs::Single(a) => numbers.push(a),
+            Inputs::Pair(a, b) => {
+                numbers.push(a);
+                numbers.push(b);
+            }
+        }
+        numbers
     }
 
     // Whether each variable is below a limit.

@@ -1,110 +1,61 @@
 ghost use Rattle.std.specs.Prelude.{◌≡◌, ◌+◌, ◌*◌, ◌≤◌, ◌++◌, length, take, drop};
 ghost use Rattle.wire.specs.Bytes.{spelled, placed};
 ghost use Rattle.sheet.specs.Forms.{condition_numbers, row_numbers, rows_numbers, sheet_form};
-ghost use Rattle.sheet.specs.Written.{field_numbers, tail_numbers, written_end, written_bytes, WrittenBack};
+ghost use Rattle.sheet.specs.Written.{written_end, written_bytes, WrittenBack};
+ghost use Rattle.arrayvec.specs.ArrayVec.{array_vec_len};
 
 use crate::parts::relation_code;
 use crate::reading::{head_outside, too_short};
-use crate::row::{Condition, Head, Inputs, Row};
+use crate::row::{Condition, Head, Row};
+use arrayvec::ArrayVec;
 use fault::{BytesPlace, Fault};
 use wire::{numbers_size, put_numbers};
 
-// The numbers of a condition, and how many they are.
-fn condition_numbers(condition: Condition) -> ([u32; 13], usize)
-    ensures numbers { take result.1 result.0 ≡ condition_numbers condition }
-    ensures few { result.1 ≤ 13 }
+// Appends numbers to a list that has room for them.
+fn append(numbers: &mut ArrayVec<u32, 22>, more: &[u32])
+    requires { array_vec_len numbers.old + length more.now ≤ 22 }
+    ensures { numbers.new.items ≡ numbers.old.items ++ more.now }
 {
-    match condition {
-        Condition::Always => ([0, 0, 0, 0, 0, 0, 0, 0, 0, 0, 0, 0, 0], 1),
-        Condition::One(a) => {
-            let x = relation_code(a.relation);
-            ([1, a.variable, x, a.word, 0, 0, 0, 0, 0, 0, 0, 0, 0], 4)
-        }
-        Condition::Two(a, b) => {
-            let x = relation_code(a.relation);
-            let y = relation_code(b.relation);
-            (
-                [
-                    2, a.variable, x, a.word, b.variable, y, b.word, 0, 0, 0, 0, 0, 0,
-                ],
-                7,
-            )
-        }
-        Condition::Three(a, b, c) => {
-            let x = relation_code(a.relation);
-            let y = relation_code(b.relation);
-            let z = relation_code(c.relation);
-            (
-                [
-                    3, a.variable, x, a.word, b.variable, y, b.word, c.variable, z, c.word, 0, 0, 0,
-                ],
-                10,
-            )
-        }
-        Condition::Four(a, b, c, d) => {
-            let x = relation_code(a.relation);
-            let y = relation_code(b.relation);
-            let z = relation_code(c.relation);
-            let w = relation_code(d.relation);
-            (
-                [
-                    4, a.variable, x, a.word, b.variable, y, b.word, c.variable, z, c.word,
-                    d.variable, w, d.word,
-                ],
-                13,
-            )
-        }
+    let _ = numbers.try_extend_from_slice(more);
+}
+
+// Appends the numbers of a condition: the count of its tests, and the tests.
+fn append_condition(numbers: &mut ArrayVec<u32, 22>, condition: Condition)
+    requires { array_vec_len numbers.old ≤ 9 }
+    ensures { numbers.new.items ≡ numbers.old.items ++ condition_numbers condition }
+{
+    let tests = condition.tests();
+    append(numbers, &[tests.len() as u32]);
+    for test in tests.as_slice() {
+        append(
+            numbers,
+            &[test.variable, relation_code(test.relation), test.word],
+        );
     }
 }
 
-// The numbers of a row before its condition, and how many they are.
-fn field_numbers(row: Row) -> ([u32; 9], usize)
-    ensures numbers { take result.1 result.0 ≡ field_numbers row }
-    ensures few { result.1 ≤ 9 }
+// The numbers that a row is written as: its kind, its fields, and those of its condition.
+fn row_numbers(row: Row) -> ArrayVec<u32, 22>
+    ensures { result.items ≡ row_numbers row }
 {
+    let mut numbers = ArrayVec::new();
     match row {
-        Row::Keep(k) => ([0, k.station, k.taken, k.given, k.first, 0, 0, 0, 0], 5),
-        Row::Call(c) => match c.inputs {
-            Inputs::Nothing => (
-                [1, c.station, c.work, 0, c.output, c.date, c.duration, 0, 0],
-                7,
-            ),
-            Inputs::Single(a) => (
-                [1, c.station, c.work, 1, a, c.output, c.date, c.duration, 0],
-                8,
-            ),
-            Inputs::Pair(a, b) => (
-                [1, c.station, c.work, 2, a, b, c.output, c.date, c.duration],
-                9,
-            ),
-        },
-        Row::Send(s) => (
-            [
-                2,
-                s.station,
-                s.variable,
-                s.listeners,
-                s.date,
-                s.duration,
-                0,
-                0,
-                0,
-            ],
-            6,
-        ),
+        Row::Keep(k) => append(&mut numbers, &[0, k.station, k.taken, k.given, k.first]),
+        Row::Call(c) => {
+            append(&mut numbers, &[1, c.station, c.work]);
+            append(&mut numbers, c.inputs.numbers().as_slice());
+            append(&mut numbers, &[c.output, c.date, c.duration]);
+            append_condition(&mut numbers, c.condition);
+        }
+        Row::Send(s) => {
+            append(
+                &mut numbers,
+                &[2, s.station, s.variable, s.listeners, s.date, s.duration],
+            );
+            append_condition(&mut numbers, s.condition);
+        }
     }
-}
-
-// The numbers of a row's condition, and how many they are.
-fn tail_numbers(row: Row) -> ([u32; 13], usize)
-    ensures numbers { take result.1 result.0 ≡ tail_numbers row }
-    ensures few { result.1 ≤ 13 }
-{
-    match row {
-        Row::Keep(_) => ([0, 0, 0, 0, 0, 0, 0, 0, 0, 0, 0, 0, 0], 0),
-        Row::Call(c) => condition_numbers(c.condition),
-        Row::Send(s) => condition_numbers(s.condition),
-    }
+    numbers
 }
 
 // How many bytes a row takes.
@@ -112,9 +63,7 @@ fn row_size(row: Row) -> u128
     ensures size { result ≡ length (spelled (row_numbers row)) }
     ensures few { result ≤ 110 }
 {
-    let (fields, n) = field_numbers(row);
-    let (tests, m) = tail_numbers(row);
-    numbers_size(&fields[0..n]) + numbers_size(&tests[0..m])
+    numbers_size(row_numbers(row).as_slice())
 }
 
 // Writes a row where there is room for it, and says where it ends.
@@ -123,10 +72,7 @@ fn put_row(out: &mut [u8], at: usize, row: Row) -> usize
     ensures end { result ≡ at + length (spelled (row_numbers row)) }
     ensures bytes { out.new ≡ take at out.old ++ (spelled (row_numbers row) ++ drop (at + length (spelled (row_numbers row))) out.old) }
 {
-    let (fields, n) = field_numbers(row);
-    let (tests, m) = tail_numbers(row);
-    let next = put_fitting(out, at, &fields[0..n]);
-    put_fitting(out, next, &tests[0..m])
+    put_fitting(out, at, row_numbers(row).as_slice())
 }
 
 // Writes numbers where there is room for them, and says where they end.
@@ -147,8 +93,8 @@ fn rows_size(rows: &[Row]) -> u128
     ensures few { result ≤ 110 * length rows.now }
 {
     let mut size: u128 = 0;
-    for i in 0..rows.len() {
-        size += row_size(rows[i]);
+    for row in rows {
+        size += row_size(*row);
     }
     size
 }
@@ -160,8 +106,8 @@ fn put_rows(out: &mut [u8], at: usize, rows: &[Row]) -> usize
     ensures bytes { out.new ≡ take at out.old ++ (spelled (rows_numbers rows.now) ++ drop (at + length (spelled (rows_numbers rows.now))) out.old) }
 {
     let mut next = at;
-    for i in 0..rows.len() {
-        next = put_row(out, next, rows[i]);
+    for row in rows {
+        next = put_row(out, next, *row);
     }
     next
 }

@@ -1,4 +1,5 @@
 pub mod Steps
+pub mod Groups
 pub mod Forms
 pub mod Puts
 pub mod Spelled

@@ -3,33 +3,27 @@ ghost use Rattle.wire.specs.Numbers.{numeral, number_at, after_number};
 
 use fault::{Fault, Offset, Refusal};
 
-// The number whose groups stand at `at`, and how many bytes it takes, or why there is none.
-fn groups(bytes: &[u8], at: usize, left: u8, first: bool) -> Result<(u32, usize), Refusal>
-    requires { (left ≤ 4) × (at ≤ length bytes.now) }
-    ensures value { result ≡ numeral left first (drop at bytes.now) }
-    ensures bound { IfOk result (λ p. (p.0 < 16 * 128 ^ left) × (at + p.1 ≤ length bytes.now)) }
+// The number that the bytes begin with, and how many bytes it takes, or why there is none. `left` groups may still
+// follow the first, and `first` says that none came before.
+fn groups(bytes: &[u8], left: u8, first: bool) -> Result<(u32, usize), Refusal>
+    requires { left ≤ 4 }
+    ensures value { result ≡ numeral left first bytes.now }
+    ensures bound { IfOk result (λ p. (p.0 < 16 * 128 ^ left) × (p.1 ≤ length bytes.now)) }
 {
-    if at >= bytes.len() {
+    let [b, rest @ ..] = bytes else {
         return Err(Refusal::EndsEarly);
+    };
+    let b = *b;
+    if b == 0 && first {
+        return Ok((0, 1));
     }
-    let b = bytes[at];
-    if b < 128 {
-        if b == 0 {
-            return if first {
-                Ok((0, 1))
-            } else {
-                Err(Refusal::NotShortest)
-            };
-        }
-        if left == 0 && b > 15 {
-            return Err(Refusal::NotShortest);
-        }
-        return Ok((u32::from(b), 1));
-    }
-    if left == 0 {
+    if b == 0 || (left == 0 && b > 15) {
         return Err(Refusal::NotShortest);
     }
-    let (high, count) = groups(bytes, at + 1, left - 1, false)?;
+    if b < 128 {
+        return Ok((u32::from(b), 1));
+    }
+    let (high, count) = groups(rest, left - 1, false)?;
     Ok((u32::from(b - 128) + 128 * high, count + 1))
 }
 
@@ -54,19 +48,14 @@ impl<'a> Reader<'a> {
     pub fn pos(&self) -> usize
         ensures { result ≡ self.now.pos }
     {
-        let next = self.pos;
-        next
+        self.pos
     }
 
     // The bytes from the offset `from` up to the next byte; none where that lies behind.
     pub fn since(&self, from: usize) -> &'a [u8]
         ensures { result.now ≡ take (self.now.pos - from) (drop from self.now.bytes.now) }
     {
-        let bytes = self.bytes;
-        if from > self.pos {
-            return &bytes[0..0];
-        }
-        &bytes[from..self.pos]
+        self.bytes.get(from..self.pos).unwrap_or(&[])
     }
 
     // The next number. A fault names its offset and leaves the reader there.
@@ -75,16 +64,12 @@ impl<'a> Reader<'a> {
         ensures next { self.new.pos ≡ after_number self.old.bytes.now self.old.pos }
         ensures same { self.new.bytes ≡ self.old.bytes }
     {
-        let pos = self.pos;
-        match groups(self.bytes, pos, 4, true) {
-            Ok((value, count)) => {
-                self.pos = pos + count;
-                Ok(value)
-            }
-            Err(refusal) => Err(Fault {
-                refusal,
-                place: Offset(pos),
-            }),
-        }
+        let place = Offset(self.pos);
+        let (value, count) = groups(&self.bytes[self.pos..], 4, true).map_err(|refusal| Fault {
+            refusal,
+            place,
+        })?;
+        self.pos += count;
+        Ok(value)
     }
 }

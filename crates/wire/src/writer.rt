@@ -1,6 +1,8 @@
 ghost use Rattle.std.specs.Prelude.{◌≡◌, ◌+◌, ◌%◌, ◌≤◌, ◌++◌, length, take, drop};
 ghost use Rattle.wire.specs.Bytes.{ReadsBack, OneForm, SameBytes, WorkedNumbers, bytes_of, spelled, end_of, placed};
 
+use arrayvec::ArrayVec;
+
 // Numbers are read back as they were written with nothing left over, and each has one form.
 pub fn numbers_stand() -> u8
     ensures back { ReadsBack }
@@ -17,35 +19,18 @@ pub fn number_cases() -> u8
     0
 }
 
-// The byte of a group that others follow.
-fn low(n: u32) -> u8
-    ensures { result ≡ n % 128 + 128 }
+// The bytes of `n`: seven bits in each, the lowest first, and 128 more in those that others follow.
+pub fn number_bytes(n: u32) -> ArrayVec<u8, 5>
+    ensures { result.items ≡ bytes_of n }
 {
-    (n % 128 + 128) as u8
-}
-
-// The bytes of `n`, and how many they are.
-pub fn number_bytes(n: u32) -> ([u8; 5], usize)
-    ensures bytes { take result.1 result.0 ≡ bytes_of n }
-    ensures count { result.1 ≡ length (bytes_of n) }
-    ensures few { result.1 ≤ 5 }
-{
-    if n < 128 {
-        return ([n as u8, 0, 0, 0, 0], 1);
+    let mut bytes = ArrayVec::new();
+    let mut rest = n;
+    while rest >= 128 {
+        bytes.push((rest % 128 + 128) as u8);
+        rest /= 128;
     }
-    let a = n / 128;
-    if a < 128 {
-        return ([low(n), a as u8, 0, 0, 0], 2);
-    }
-    let b = a / 128;
-    if b < 128 {
-        return ([low(n), low(a), b as u8, 0, 0], 3);
-    }
-    let c = b / 128;
-    if c < 128 {
-        return ([low(n), low(a), low(b), c as u8, 0], 4);
-    }
-    ([low(n), low(a), low(b), low(c), (c / 128) as u8], 5)
+    bytes.push(rest as u8);
+    bytes
 }
 
 // Writes `n` at `at`, and says where it ends. A list that is too short is left as it was.
@@ -53,12 +38,13 @@ pub fn put_number(out: &mut [u8], at: usize, n: u32) -> Result<usize, usize>
     ensures end { result ≡ end_of (length out.old) at (bytes_of n) }
     ensures bytes { out.new ≡ placed out.old at (bytes_of n) }
 {
-    let (bytes, count) = number_bytes(n);
-    if at > out.len() || out.len() - at < count {
-        return Err(count);
+    let bytes = number_bytes(n);
+    if at > out.len() || out.len() - at < bytes.len() {
+        return Err(bytes.len());
     }
-    out[at..at + count].copy_from_slice(&bytes[0..count]);
-    Ok(at + count)
+    let end = at + bytes.len();
+    out[at..end].copy_from_slice(bytes.as_slice());
+    Ok(end)
 }
 
 // How many bytes the numbers take.
@@ -66,9 +52,8 @@ pub fn numbers_size(numbers: &[u32]) -> u128
     ensures { result ≡ length (spelled numbers.now) }
 {
     let mut size: u128 = 0;
-    for i in 0..numbers.len() {
-        let (_, count) = number_bytes(numbers[i]);
-        size += count as u128;
+    for n in numbers {
+        size += number_bytes(*n).len() as u128;
     }
     size
 }
@@ -105,8 +90,8 @@ fn lay(out: &mut [u8], at: usize, numbers: &[u32]) -> usize
     ensures bytes { out.new ≡ take at out.old ++ (spelled numbers.now ++ drop (at + length (spelled numbers.now)) out.old) }
 {
     let mut next = at;
-    for i in 0..numbers.len() {
-        next = put_fitting(out, next, numbers[i]);
+    for n in numbers {
+        next = put_fitting(out, next, *n);
     }
     next
 }

@@ -1,5 +1,4 @@
 use Rattle.std.proofs.Common.{take, sym, ◌∙◌}
-use native.Mathlib.Nat.{sub-zero}
 use Rattle.std.proofs.lemmas.List.{at_drop_all}
 use Rattle.fault.specs.Scan.{first_bad}
 use Rattle.fault.proofs.Scans.{bad-here, first-is}
@@ -7,12 +6,12 @@ use Rattle.fault.proofs.scan.first_bad.Goals as goal
 
 pub returns-in-Some : goal.returns-in-Some
 returns-in-Some g c =
-    let e = sym (c.loop-i.invariant ∙ bad-here (λ i x. g.R.Rule.broken c.args.ctx.now (take i c.args.records.now) x) c.args.records.now c.loop-i.i c.index-records-i.result _ c.loop-i-test.true c.index-records-i.is (rw sub-zero at c.in-Some.ensures)) in
+    let e = sym (c.loop-i.invariant ∙ bad-here (λ i x. g.R.Rule.broken c.args.ctx.now (take i c.args.records.now) x) c.args.records.now c.loop-i.i c.index-records-i.result _ c.loop-i-test.true c.index-records-i.is c.in-Some.ensures) in
     record { value = e; first = first-is (λ i x. g.R.Rule.broken c.args.ctx.now (take i c.args.records.now) x) c.args.records.now _ e }
 
 pub loop-i-preserved : goal.loop-i-preserved
 loop-i-preserved g c =
-    c.loop-i.invariant ∙ bad-here (λ i x. g.R.Rule.broken c.args.ctx.now (take i c.args.records.now) x) c.args.records.now c.loop-i.i c.index-records-i.result _ c.loop-i-test.true c.index-records-i.is (rw sub-zero at c.in_default.ensures)
+    c.loop-i.invariant ∙ bad-here (λ i x. g.R.Rule.broken c.args.ctx.now (take i c.args.records.now) x) c.args.records.now c.loop-i.i c.index-records-i.result _ c.loop-i-test.true c.index-records-i.is c.in_default.ensures
 
 pub returns : goal.returns
 returns g c =

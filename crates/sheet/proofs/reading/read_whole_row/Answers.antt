@@ -16,12 +16,12 @@ decoded-row : (form : RowForm) (next : ℕ) (r : Result Row (Fault Offset)) (y :
     → shown r next ≡ y
 decoded-row form next r y e (row, d, q) = ap (λ (x : Result Row (Fault Offset)). shown x next) (e ∙ d) ∙ sym q
 
-pub returns-in_err-row : goal.returns-in_err-row
-returns-in_err-row c =
+pub returns-in_err-read_row : goal.returns-in_err-read_row
+returns-in_err-read_row c =
     let bs = c.args.reader.now.bytes.now in
     let pos = c.args.reader.now.pos in
     let p = err_from_is_err_and c.from_residual.result c.from_residual.ensures.1 in
-    let v = c.in_err-row.ensures in
+    let v = c.in_err-read_row.ensures in
     let m = matched (borrowed_from bs pos) (row_from bs pos) _ v.value (row-matches bs pos) in
     rw (p.1, p.2) record { value = sym m; same = v.same }
 
@@ -29,6 +29,6 @@ pub returns : goal.returns
 returns c =
     let bs = c.args.reader.now.bytes.now in
     let pos = c.args.reader.now.pos in
-    let v = c.in_ok-row.ensures in
+    let v = c.in_ok-read_row.ensures in
     let m = matched (borrowed_from bs pos) (row_from bs pos) _ v.value (row-matches bs pos) in
-    record { value = decoded-row (form_of c.in_ok-row.row) c.read_row.new.reader.pos c.decode.result (row_from bs pos) c.decode.ensures m; same = v.same }
+    record { value = decoded-row (form_of c.in_ok-read_row.field-0) c.read_row.new.reader.pos c.decode.result (row_from bs pos) c.decode.ensures m; same = v.same }

@@ -11,40 +11,40 @@ use Rattle.sheet.proofs.writing.put_rows.Goals as goal
 pub put_row-next-requires : goal.put_row-next-requires
 put_row-next-requires c =
     let rs = c.args.rows.now in
-    let i = c.loop-i.i in
-    let o : length c.loop-i.out ≡ length c.args.out.now = omega arith in
-    omega (arith, c.loop-i.invariant.0, form-split rs i, form-first rs i c.loop-i-test.true, c.requires)
+    let i = c.loop-row.row-index in
+    let o : length c.loop-row.out ≡ length c.args.out.now = omega arith in
+    omega (arith, c.loop-row.invariant.0, form-split rs i, form-first rs i c.loop-row-test.true, c.requires)
 
-pub loop-i-init : goal.loop-i-init
-loop-i-init c = (sym (add-zero c.args.at), sym (nothing_placed c.args.out.now c.args.at))
+pub loop-row-init : goal.loop-row-init
+loop-row-init c = (sym (add-zero c.args.at), sym (nothing_placed c.args.out.now c.args.at))
 
-pub loop-i-preserved : goal.loop-i-preserved
-loop-i-preserved c =
+pub loop-row-preserved : goal.loop-row-preserved
+loop-row-preserved c =
     let rs = c.args.rows.now in
-    let i = c.loop-i.i in
+    let i = c.loop-row.row-index in
     let at = c.args.at in
     let out = c.args.out.now in
     let xs = form (take i rs) in
     let ys = spelled (row_numbers (row_at rs i)) in
-    let e : form (take (i + 1) rs) ≡ xs ++ ys = form-more rs i c.loop-i-test.true in
-    let room : at + length xs + length ys ≤ length out = omega (arith, form-split rs i, form-first rs i c.loop-i-test.true, c.requires) in
+    let e : form (take (i + 1) rs) ≡ xs ++ ys = form-more rs i c.loop-row-test.true in
+    let room : at + length xs + length ys ≤ length out = omega (arith, form-split rs i, form-first rs i c.loop-row-test.true, c.requires) in
     let f = c.put_row-next.ensures in
-    let l : length (take at out ++ (xs ++ drop (at + length xs) out)) ≡ length c.loop-i.out = sym (ap length c.loop-i.invariant.1) in
-    let o : length c.loop-i.out ≡ length out = omega arith in
+    let l : length (take at out ++ (xs ++ drop (at + length xs) out)) ≡ length c.loop-row.out = sym (ap length c.loop-row.invariant.1) in
+    let o : length c.loop-row.out ≡ length out = omega arith in
     let step : c.put_row-next.new.out ≡ placed (take at out ++ (xs ++ drop (at + length xs) out)) (at + length xs) ys =
     f.bytes
-    ∙ ap (λ (zs : List ℕ). take c.loop-i.next zs ++ (ys ++ drop (c.loop-i.next + length ys) zs)) c.loop-i.invariant.1
-    ∙ ap (λ (k : ℕ). take k (take at out ++ (xs ++ drop (at + length xs) out)) ++ (ys ++ drop (k + length ys) (take at out ++ (xs ++ drop (at + length xs) out)))) c.loop-i.invariant.0
+    ∙ ap (λ (zs : List ℕ). take c.loop-row.next zs ++ (ys ++ drop (c.loop-row.next + length ys) zs)) c.loop-row.invariant.1
+    ∙ ap (λ (k : ℕ). take k (take at out ++ (xs ++ drop (at + length xs) out)) ++ (ys ++ drop (k + length ys) (take at out ++ (xs ++ drop (at + length xs) out)))) c.loop-row.invariant.0
     ∙ sym (placed-room (take at out ++ (xs ++ drop (at + length xs) out)) (at + length xs) ys (omega arith)) in (
-      omega (arith, f.end, c.loop-i.invariant.0, ap length e, length-append xs ys),
+      omega (arith, f.end, c.loop-row.invariant.0, ap length e, length-append xs ys),
       step ∙ placed-more out at xs ys room ∙ ap (λ (zs : List ℕ). take at out ++ (zs ++ drop (at + length zs) out)) (sym e),
     )
 
 pub returns : goal.returns
 returns c =
     let rs = c.args.rows.now in
-    let all = take_all c.loop-i.i rs c.loop-i-test.false in
+    let all = take_all c.loop-row.row-index rs c.loop-row-test.false in
     record {
-      end = c.loop-i.invariant.0 ∙ ap (λ (xs : List Row). c.args.at + length (form xs)) all;
-      bytes = c.loop-i.invariant.1 ∙ ap (λ (xs : List Row). take c.args.at c.args.out.now ++ (form xs ++ drop (c.args.at + length (form xs)) c.args.out.now)) all;
+      end = c.loop-row.invariant.0 ∙ ap (λ (xs : List Row). c.args.at + length (form xs)) all;
+      bytes = c.loop-row.invariant.1 ∙ ap (λ (xs : List Row). take c.args.at c.args.out.now ++ (form xs ++ drop (c.args.at + length (form xs)) c.args.out.now)) all;
     }
