@@ -31,8 +31,8 @@ fn numbers_are_read(rt: HostRuntime) {
 
 #[test]
 fn numbers_are_written(rt: HostRuntime) {
-    let (bytes, count) = number_bytes(300);
-    assert!(rt; count == 2 && bytes[0] == 0xAC && bytes[1] == 0x02);
+    let bytes = number_bytes(300);
+    assert!(rt; bytes.as_slice() == [0xAC, 0x02].as_slice());
     let mut out = [9u8; 4];
     assert!(rt; put_numbers(&mut out, 1, &[300]) == Ok(3));
     assert!(rt; out == [9, 0xAC, 0x02, 9]);

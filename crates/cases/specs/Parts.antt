@@ -1,4 +1,4 @@
-use Rattle.std.specs.Prelude.{ℕ, ◌+◌, ◌-◌, ◌*◌, cond, List, length, take, drop, Some, None, Option, nat_lt, slice_index}
+use Rattle.std.specs.Prelude.{◌≡◌, ℕ, ◌+◌, ◌-◌, ◌*◌, cond, List, length, take, drop, Some, None, Option, nat_lt, slice_index}
 use Rattle.std.specs.Borrow.{Bor}
 
 -- The length that two bytes tell, the low one first.
@@ -16,3 +16,22 @@ part_in bs =
 abbrev pub shown : Option (Bor (List ℕ) × Bor (List ℕ)) → Option (List ℕ × List ℕ)
 shown None = None
 shown (Some p) = Some (p.0.now, p.1.now)
+
+-- What the next of the parts is, and what is left: nothing where the next is cut short, and then all is left.
+abbrev pub GivesPart : List ℕ → Option (Bor (List ℕ)) → List ℕ → Type 0
+GivesPart bs None left = (part_in bs ≡ None) × (left ≡ bs)
+GivesPart bs (Some x) left = part_in bs ≡ Some (x.now, left)
+
+-- What follows on a value that was found, or nothing.
+abbrev pub and_next : {A B : Type 0} → Option A → (A → Option B) → Option B
+and_next None k = None
+and_next (Some a) k = k a
+
+-- Two parts, one after the other.
+abbrev pub pair_in : List ℕ → Option ((List ℕ × List ℕ) × List ℕ)
+pair_in bs = and_next (part_in bs) (λ p. and_next (part_in p.1) (λ q. Some ((p.0, q.0), q.1)))
+
+-- The same of the next two parts.
+abbrev pub GivesPair : List ℕ → Option (Bor (List ℕ) × Bor (List ℕ)) → List ℕ → Type 0
+GivesPair bs None left = (pair_in bs ≡ None) × (left ≡ bs)
+GivesPair bs (Some x) left = pair_in bs ≡ Some ((x.0.now, x.1.now), left)

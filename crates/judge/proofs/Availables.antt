@@ -81,20 +81,20 @@ module _ (rows : List Row) (r : ℕ) where
   tests-from n d (Three t u v) a = (a 0 (omega arith), (a 1 (omega arith), (a 2 (omega arith), tt)))
   tests-from n d (Four t u v x) a = (a 0 (omega arith), (a 1 (omega arith), (a 2 (omega arith), (a 3 (omega arith), tt))))
 
-  inputs-to : (c : Call) (i : Inputs) → AllByRecursion (Met rows r) (input_needs c i)
+  inputs-to : (c : Call Condition) (i : Inputs) → AllByRecursion (Met rows r) (input_needs c i)
       → AllByRecursion (λ v. Available rows r c.station v c.date (tests_of c.condition)) (inputs_of i)
   inputs-to c Nothing a = tt
   inputs-to c (Single x) a = a
   inputs-to c (Pair x y) a = a
 
-  inputs-from : (c : Call) (i : Inputs) → AllByRecursion (λ v. Available rows r c.station v c.date (tests_of c.condition)) (inputs_of i)
+  inputs-from : (c : Call Condition) (i : Inputs) → AllByRecursion (λ v. Available rows r c.station v c.date (tests_of c.condition)) (inputs_of i)
       → AllByRecursion (Met rows r) (input_needs c i)
   inputs-from c Nothing a = tt
   inputs-from c (Single x) a = a
   inputs-from c (Pair x y) a = a
 
   -- The stations from `n`, `k` of them, that listen have their tests available.
-  abbrev Heard : Send → ℕ → ℕ → Type 0
+  abbrev Heard : Send Condition → ℕ → ℕ → Type 0
   Heard s k n = (m : ℕ) → n ≤ m → m < n + k → Listens s.listeners m → TestsAvailable rows r m s.date (tests_of s.condition)
 
   picked-to : (b : Bool) (L : Type 0) (xs : List Need) → Decides b L → AllByRecursion (Met rows r) (cond b xs []) → L → AllByRecursion (Met rows r) xs
@@ -105,7 +105,7 @@ module _ (rows : List Row) (r : ℕ) where
   picked-from true L xs e f = f (e.0 refl)
   picked-from false L xs e f = tt
 
-  heard-to : (s : Send) (k n : ℕ) → AllByRecursion (Met rows r) (listener_needs s k n) → Heard s k n
+  heard-to : (s : Send Condition) (k n : ℕ) → AllByRecursion (Met rows r) (listener_needs s k n) → Heard s k n
   heard-to s zero n a m h l x = absurd (omega arith)
   heard-to s (suc k) n a m h l x =
       let p = all_split (Met rows r) (heard_needs s n) (listener_needs s k (n + 1)) a in
@@ -115,7 +115,7 @@ module _ (rows : List Row) (r : ℕ) where
       at m e b y =
           rw e (picked-to (listens s.listeners n) (Listens s.listeners n) (test_needs n s.date s.condition) (Decides-eqb (s.listeners / 2 ^ n % 2) 1) b (rw e at y))
 
-  heard-from : (s : Send) (k n : ℕ) → Heard s k n → AllByRecursion (Met rows r) (listener_needs s k n)
+  heard-from : (s : Send Condition) (k n : ℕ) → Heard s k n → AllByRecursion (Met rows r) (listener_needs s k n)
   heard-from s zero n f = tt
   heard-from s (suc k) n f =
       All-append (Met rows r) (heard_needs s n) (listener_needs s k (n + 1))

@@ -1,5 +1,6 @@
 use Rattle.std.proofs.Common.{◌≡◌, ℕ, zero, suc, ◌+◌, ◌-◌, ◌^◌, ◌<◌, ◌≤◌, true, false, cond, ◌⊎◌, List, [], ◌∷◌, ◌++◌, Some, None, Option, sym, refl, ◌∙◌, inl, inr, arith}
 use Rattle.sheet.specs.declared.row.Row.{Row}
+use Rattle.sheet.specs.declared.row.Condition.{Condition}
 use Rattle.sheet.specs.declared.row.Send.{Send}
 use Rattle.judge.specs.declared.need.Need.{Need}
 use Rattle.std.proofs.lemmas.Bool.{le-ltb}
@@ -24,14 +25,14 @@ pub unavailable-at : (above : List Row) (xs ys : List Need) (o : Option ℕ) →
 unavailable-at above xs ys o e = rw e (unavailable-append above xs ys)
 
 -- One more station.
-pub heard : (above : List Row) (s : Send) (k n : ℕ) (o : Option ℕ) → n < k → o ≡ first_unavailable above (heard_needs s n)
+pub heard : (above : List Row) (s : Send Condition) (k n : ℕ) (o : Option ℕ) → n < k → o ≡ first_unavailable above (heard_needs s n)
     → first_unavailable above (listener_needs s (k - n) n) ≡ or_later o (first_unavailable above (listener_needs s (k - (n + 1)) (n + 1)))
 heard above s k n o h e =
     let p : k - n ≡ suc (k - (n + 1)) = omega arith in
     rw p (unavailable-at above (heard_needs s n) (listener_needs s (k - (n + 1)) (n + 1)) o e)
 
 -- Beyond the bits of the listeners none listens.
-heard-beyond : (above : List Row) (s : Send) (k n : ℕ) → s.listeners < 2 ^ 32 → 32 ≤ n
+heard-beyond : (above : List Row) (s : Send Condition) (k n : ℕ) → s.listeners < 2 ^ 32 → 32 ≤ n
     → first_unavailable above (listener_needs s k n) ≡ None
 heard-beyond above s zero n l h = refl
 heard-beyond above s (suc k) n l h =
@@ -39,7 +40,7 @@ heard-beyond above s (suc k) n l h =
     rw b (heard-beyond above s k (n + 1) l (omega arith))
 
 -- So it is enough to ask as many stations as there are bits.
-pub heard-rest : (above : List Row) (s : Send) (k n : ℕ) → s.listeners < 2 ^ 32 → (k ≤ n) ⊎ (32 ≤ n)
+pub heard-rest : (above : List Row) (s : Send Condition) (k n : ℕ) → s.listeners < 2 ^ 32 → (k ≤ n) ⊎ (32 ≤ n)
     → first_unavailable above (listener_needs s (k - n) n) ≡ None
 heard-rest above s k n l (inl h) =
     let p : k - n ≡ 0 = omega arith in

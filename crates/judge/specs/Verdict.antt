@@ -39,7 +39,7 @@ inputs_within n (v ∷ vs) = nat_lt v n && inputs_within n vs
 abbrev pub keep_within : Head → Keep → Bool
 keep_within h k = nat_lt k.station h.stations && (nat_lt k.taken h.variables && nat_lt k.given h.variables)
 
-abbrev pub call_within : Head → Call → Bool
+abbrev pub call_within : Head → Call Condition → Bool
 call_within h c =
     nat_lt c.station h.stations
     && (nat_le c.work 255
@@ -48,7 +48,7 @@ call_within h c =
     && (within_cycle c.date c.duration h.cycle
     && all_within h.variables (tests_of c.condition)))))
 
-abbrev pub send_within : Head → Send → Bool
+abbrev pub send_within : Head → Send Condition → Bool
 send_within h s =
     nat_lt s.station h.stations
     && (nat_lt s.variable h.variables
@@ -100,12 +100,12 @@ two_writers (send_row s) x = false
 
 -- Overlaps at a station and on the line (10).
 
-abbrev pub calls_overlap : Call → Call → Bool
+abbrev pub calls_overlap : Call Condition → Call Condition → Bool
 calls_overlap c d =
     (c.station == d.station)
     && (not (excluding (tests_of c.condition) (tests_of d.condition)) && nat_lt d.date (c.date + c.duration))
 
-abbrev pub sends_overlap : Send → Send → Bool
+abbrev pub sends_overlap : Send Condition → Send Condition → Bool
 sends_overlap s t =
     not (excluding (tests_of s.condition) (tests_of t.condition))
     && (nat_lt t.date (s.date + s.duration) && nat_lt s.date (t.date + t.duration))
@@ -164,29 +164,29 @@ test_needs s d (Four t u v x) =
     ∷ need_at s d x.variable (Three t u v) ∷ []
 
 -- Each input, after all tests.
-abbrev pub input_needs : Call → Inputs → List Need
+abbrev pub input_needs : Call Condition → Inputs → List Need
 input_needs c Nothing = []
 input_needs c (Single a) = need_at c.station c.date a c.condition ∷ []
 input_needs c (Pair a b) =
     need_at c.station c.date a c.condition ∷ need_at c.station c.date b c.condition ∷ []
 
 -- Each tested variable at the station `n`, if it listens.
-abbrev pub heard_needs : Send → ℕ → List Need
+abbrev pub heard_needs : Send Condition → ℕ → List Need
 heard_needs s n = cond (listens s.listeners n) (test_needs n s.date s.condition) []
 
 -- The same at each of the `k` stations from `n`.
-abbrev pub listener_needs : Send → ℕ → ℕ → List Need
+abbrev pub listener_needs : Send Condition → ℕ → ℕ → List Need
 listener_needs s zero n = []
 listener_needs s (suc k) n =
     heard_needs s n ++ listener_needs s k (n + 1)
 
-abbrev pub call_needs : Call → List Need
+abbrev pub call_needs : Call Condition → List Need
 call_needs c = test_needs c.station c.date c.condition ++ input_needs c c.inputs
 
-abbrev pub sent_needs : ℕ → Send → List Need
+abbrev pub sent_needs : ℕ → Send Condition → List Need
 sent_needs stations s = need_at s.station s.date s.variable s.condition ∷ listener_needs s stations 0
 
-abbrev pub send_needs : ℕ → Send → List Need
+abbrev pub send_needs : ℕ → Send Condition → List Need
 send_needs stations s = test_needs s.station s.date s.condition ++ sent_needs stations s
 
 -- What a row needs, in the order in which it is tried.

@@ -5,6 +5,7 @@ use Rattle.std.proofs.lemmas.Bool.{both_ways}
 use Rattle.fault.specs.declared.refusal.Fault.{Fault}
 use Rattle.fault.specs.declared.place.FitPlace.{FitPlace}
 use Rattle.sheet.specs.Rows.{no_row}
+use Rattle.sheet.specs.declared.row.Condition.{Condition}
 use Rattle.sheet.specs.declared.row.Call.{Call}
 use Rattle.sheet.specs.declared.row.Row.{Row}
 use Rattle.sheet.specs.declared.row.Row.TheVariants.{Keep as keep_row, Call as call_row, Send as send_row}
@@ -21,16 +22,16 @@ fit-more m rows i d o h q =
 record FitFrom (m : Model) (i : ℕ) (rows : List Row) (r : Result (Unit {0}) (Fault FitPlace)) : Type 0 where
   good : r ≡ Ok tt → KnowsEach m rows
   when_good : KnowsEach m rows → r ≡ Ok tt
-  refused : (f : Fault FitPlace) → r ≡ Err f → (k : ℕ) × (c : Call) × (f ≡ unfit c (i + k)) × FirstUnknown m rows k c
-  when_refused : (k : ℕ) (c : Call) → FirstUnknown m rows k c → r ≡ Err (unfit c (i + k))
+  refused : (f : Fault FitPlace) → r ≡ Err f → (k : ℕ) × (c : Call Condition) × (f ≡ unfit c (i + k)) × FirstUnknown m rows k c
+  when_refused : (k : ℕ) (c : Call Condition) → FirstUnknown m rows k c → r ≡ Err (unfit c (i + k))
 
-keep-never : (c : Call) → no_row ≡ call_row c → ⊥
+keep-never : (c : Call Condition) → no_row ≡ call_row c → ⊥
 keep-never c e = let z : ◌≡◌ {A = ℕ} 0 1 = cc in omega arith
 
 ok-never : (f : Fault FitPlace) → ◌≡◌ {A = Result (Unit {0}) (Fault FitPlace)} (Ok tt) (Err f) → ⊥
 ok-never f e = let z : ◌≡◌ {A = ℕ} 0 1 = cc in omega arith
 
-same-call : (b c : Call) → call_row b ≡ call_row c → b ≡ c
+same-call : (b c : Call Condition) → call_row b ≡ call_row c → b ≡ c
 same-call b c e = cc
 
 same-fault : (f g : Fault FitPlace) → ◌≡◌ {A = Result (Unit {0}) (Fault FitPlace)} (Err f) (Err g) → f ≡ g
@@ -38,7 +39,7 @@ same-fault f g e = cc
 
 -- A row that asks for nothing unknown leaves it to the rest.
 past : (m : Model) (i : ℕ) (r : Row) (rs : List Row) (x : Result (Unit {0}) (Fault FitPlace))
-    → ((c : Call) → r ≡ call_row c → knows_call m c ≡ true) → FitFrom m (i + 1) rs x → FitFrom m i (r ∷ rs) x
+    → ((c : Call Condition) → r ≡ call_row c → knows_call m c ≡ true) → FitFrom m (i + 1) rs x → FitFrom m i (r ∷ rs) x
 past m i r rs x h ih = record { good = λ e. each (ih.good e); when_good = λ k. ih.when_good (λ j c q. k (suc j) c q); refused = below; when_refused = named }
   where
     on : (k : ℕ) → i + 1 + k ≡ i + suc k
@@ -52,20 +53,20 @@ past m i r rs x h ih = record { good = λ e. each (ih.good e); when_good = λ k.
     above n k zero c l q = h c q
     above n k (suc j) c l q = k j c (omega arith) q
 
-    below : (f : Fault FitPlace) → x ≡ Err f → (k : ℕ) × (c : Call) × (f ≡ unfit c (i + k)) × FirstUnknown m (r ∷ rs) k c
+    below : (f : Fault FitPlace) → x ≡ Err f → (k : ℕ) × (c : Call Condition) × (f ≡ unfit c (i + k)) × FirstUnknown m (r ∷ rs) k c
     below f e =
         let p = ih.refused f e in
         let u = p.3 in
         (suc p.0, p.1, p.2 ∙ ap (unfit p.1) (on p.0), record { here = u.here; unknown = u.unknown; above = above p.0 u.above })
 
-    named : (k : ℕ) (c : Call) → FirstUnknown m (r ∷ rs) k c → x ≡ Err (unfit c (i + k))
+    named : (k : ℕ) (c : Call Condition) → FirstUnknown m (r ∷ rs) k c → x ≡ Err (unfit c (i + k))
     named zero c u = absurd (both_ways (knows_call m c) u.unknown (h c u.here))
     named (suc k) c u =
         ih.when_refused k c (record { here = u.here; unknown = u.unknown; above = λ j b l q. u.above (suc j) b (omega arith) q })
         ∙ ap (λ (n : ℕ). Err (unfit c n)) (on k)
 
 -- A call whose work is unknown is refused.
-here : (m : Model) (i : ℕ) (b : Call) (rs : List Row) → knows_call m b ≡ false → FitFrom m i (call_row b ∷ rs) (Err (unfit b i))
+here : (m : Model) (i : ℕ) (b : Call Condition) (rs : List Row) → knows_call m b ≡ false → FitFrom m i (call_row b ∷ rs) (Err (unfit b i))
 here m i b rs h = record {
   good = λ e. absurd (ok-never (unfit b i) (sym e));
   when_good = λ k. absurd (both_ways (knows_call m b) h (k 0 b refl));
@@ -76,9 +77,9 @@ here m i b rs h = record {
     at : i ≡ i + 0
     at = omega arith
 
-    named : (k : ℕ) (c : Call) → FirstUnknown m (call_row b ∷ rs) k c
+    named : (k : ℕ) (c : Call Condition) → FirstUnknown m (call_row b ∷ rs) k c
         → ◌≡◌ {A = Result (Unit {0}) (Fault FitPlace)} (Err (unfit b i)) (Err (unfit c (i + k)))
-    named zero c u = ap (λ (d : Call). Err (unfit d i)) (same-call b c u.here) ∙ ap (λ (n : ℕ). Err (unfit c n)) at
+    named zero c u = ap (λ (d : Call Condition). Err (unfit d i)) (same-call b c u.here) ∙ ap (λ (n : ℕ). Err (unfit c n)) at
     named (suc k) c u = absurd (both_ways (knows_call m b) h (u.above 0 b (omega arith) refl))
 
 fits-from : (m : Model) (i : ℕ) (rows : List Row) → FitFrom m i rows (fit_from m i rows)

@@ -7,7 +7,7 @@ ghost use Rattle.netcode.specs.declared.step.Step.TheVariants.{Call};
 ghost use Rattle.programs.specs.Stores.{written, putting};
 
 use netcode::Step;
-use sheet::{Inputs, relation_code};
+use sheet::Inputs;
 use wire::put_number;
 
 // The numbers that a CALL is written as, and how many they are.
@@ -40,7 +40,7 @@ fn step_numbers(step: Step) -> ([u32; 8], usize)
             word,
             address,
         } => (
-            [0, variable, relation_code(relation), word, address, 0, 0, 0],
+            [0, variable, u32::from(relation), word, address, 0, 0, 0],
             5,
         ),
         Step::Future { ticks, address } => ([1, ticks, address, 0, 0, 0, 0, 0], 3),

@@ -6,6 +6,7 @@ use Rattle.sheet.specs.declared.row.Relation.TheVariants.{Equal, Unequal}
 use Rattle.sheet.specs.declared.row.Test.{Test}
 use Rattle.sheet.specs.declared.row.Inputs.{Inputs}
 use Rattle.sheet.specs.declared.row.Inputs.TheVariants.{Nothing, Single, Pair}
+use Rattle.sheet.specs.declared.row.Condition.{Condition}
 use Rattle.sheet.specs.declared.row.Call.{Call}
 use Rattle.sheet.specs.declared.row.Row.{Row}
 use Rattle.sheet.specs.declared.row.Row.TheVariants.{Keep as keep_row, Call as call_row, Send as send_row}
@@ -46,7 +47,7 @@ tests_same [] at p e = refl
 tests_same (t ∷ ts) at p e = ap₂ (λ (x y : Bool). x && y) (test-same t (at t.variable) ∙ ap (meets (as_test t)) (e t.variable)) (tests_same ts at p e)
 
 -- A call with its inputs.
-abbrev called : Call → Inputs → Planned
+abbrev called : Call Condition → Inputs → Planned
 called c i = record {
   sends = false;
   st = c.station;
@@ -61,17 +62,17 @@ called c i = record {
   tests = as_tests (tests_of c.condition);
 }
 
-work-same : (c : Call) (i : Inputs) (at : ℕ → Option ℕ) (p : PlannedPlaces) → ((v : ℕ) → at v ≡ p c.station v) → work_of c i at ≡ asked (called c i) p
+work-same : (c : Call Condition) (i : Inputs) (at : ℕ → Option ℕ) (p : PlannedPlaces) → ((v : ℕ) → at v ≡ p c.station v) → work_of c i at ≡ asked (called c i) p
 work-same c Nothing at p e = refl
 work-same c (Single a) at p e = ap (λ (z : ℕ). record { station = c.station; number = c.work; count = 1; first = z; second = 0 }) (word_same (at a) ∙ ap planned_word (e a))
 work-same c (Pair a b) at p e = ap₂ (λ (z y : ℕ). record { station = c.station; number = c.work; count = 2; first = z; second = y }) (word_same (at a) ∙ ap planned_word (e a)) (word_same (at b) ∙ ap planned_word (e b))
 
-first-same : (c : Call) (i : Inputs) (at : ℕ → Option ℕ) (p : PlannedPlaces) → ((v : ℕ) → at v ≡ p c.station v) → first_read i at ≡ said (ltb 0 (input_count i)) (word1 (called c i) p)
+first-same : (c : Call Condition) (i : Inputs) (at : ℕ → Option ℕ) (p : PlannedPlaces) → ((v : ℕ) → at v ≡ p c.station v) → first_read i at ≡ said (ltb 0 (input_count i)) (word1 (called c i) p)
 first-same c Nothing at p e = refl
 first-same c (Single a) at p e = ap Some (word_same (at a) ∙ ap planned_word (e a))
 first-same c (Pair a b) at p e = ap Some (word_same (at a) ∙ ap planned_word (e a))
 
-second-same : (c : Call) (i : Inputs) (at : ℕ → Option ℕ) (p : PlannedPlaces) → ((v : ℕ) → at v ≡ p c.station v) → second_read i at ≡ said (ltb 1 (input_count i)) (word2 (called c i) p)
+second-same : (c : Call Condition) (i : Inputs) (at : ℕ → Option ℕ) (p : PlannedPlaces) → ((v : ℕ) → at v ≡ p c.station v) → second_read i at ≡ said (ltb 1 (input_count i)) (word2 (called c i) p)
 second-same c Nothing at p e = refl
 second-same c (Single a) at p e = refl
 second-same c (Pair a b) at p e = ap Some (word_same (at b) ∙ ap planned_word (e b))
@@ -86,7 +87,7 @@ module _ (m : Model) where
   S = m.State
 
   Known : Row → Type 0
-  Known x = (c : Call) → x ≡ call_row c → m.known c.station c.work (input_count c.inputs) ≡ true
+  Known x = (c : Call Condition) → x ≡ call_row c → m.known c.station c.work (input_count c.inputs) ≡ true
 
   -- Whether a row is performed, what it gives, and what it leaves.
   performed-same : (x : Row) (a : Now S) (b : PlannedNow S) → is_keep x ≡ false → NowAlike a b → is_performed x a.places ≡ all_meet (as_row x).tests (b.places (as_row x).st)
@@ -94,7 +95,7 @@ module _ (m : Model) where
   performed-same (call_row c) a b nk al = tests_same (tests_of c.condition) (a.places c.station) (b.places c.station) (al.places c.station)
   performed-same (send_row s) a b nk al = tests_same (tests_of s.condition) (a.places s.station) (b.places s.station) (al.places s.station)
 
-  given-same : (c : Call) (a : Now S) (b : PlannedNow S) → m.known c.station c.work (input_count c.inputs) ≡ true → NowAlike a b
+  given-same : (c : Call Condition) (a : Now S) (b : PlannedNow S) → m.known c.station c.work (input_count c.inputs) ≡ true → NowAlike a b
       → m.answer a.plant (asks c a.places) ≡ guarded m b.plant (asked (as_row (call_row c)) b.places)
   given-same c a b kn al =
       ap₂ (λ (p : S) (w : Work). m.answer p w) al.plant (work-same c c.inputs (a.places c.station) b.places (al.places c.station))

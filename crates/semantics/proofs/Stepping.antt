@@ -3,6 +3,7 @@ use Rattle.std.proofs.Common.{◌≡◌, ℕ, zero, suc, ◌+◌, ◌*◌, ◌/�
 use Rattle.std.proofs.lemmas.Bool.{cases_Bool, eq-eqb, ne_eqb, eqb-true, cond-true, cond-false, and_parts, both_ways, not-true, eqb-false, cases_order}
 use Rattle.sheet.specs.declared.row.Inputs.{Inputs}
 use Rattle.sheet.specs.declared.row.Inputs.TheVariants.{Nothing as no_input, Single as one_input, Pair as two_inputs}
+use Rattle.sheet.specs.declared.row.Condition.{Condition}
 use Rattle.sheet.specs.declared.row.Call.{Call}
 use Rattle.sheet.specs.declared.row.Send.{Send}
 use Rattle.sheet.specs.declared.row.Row.{Row}
@@ -34,7 +35,7 @@ never : {A : Type 0} {B : Type 0} (x : A) → ◌≡◌ {A = Option A} None (Som
 never x e = absurd (let z : ◌≡◌ {A = ℕ} 0 1 = cc in omega arith)
 
 -- A call with its inputs.
-abbrev planned : Call → Inputs → Planned
+abbrev planned : Call Condition → Inputs → Planned
 planned c i = record {
   sends = false;
   st = c.station;
@@ -49,7 +50,7 @@ planned c i = record {
   tests = as_tests (tests_of c.condition);
 }
 
-record Ready (c : Call) (i : Inputs) (at : ℕ → Option ℕ) (pl : Places) : Type 0 where
+record Ready (c : Call Condition) (i : Inputs) (at : ℕ → Option ℕ) (pl : Places) : Type 0 where
   words : Words
   is : input_words i at ≡ Some words
   asks : asked c.station c.work words ≡ asked_of (planned c i) pl
@@ -57,7 +58,7 @@ record Ready (c : Call) (i : Inputs) (at : ℕ → Option ℕ) (pl : Places) : T
   second : second_word words ≡ said (ltb 1 (input_count i)) (word2 (planned c i) pl)
   count : count_of words ≡ input_count i
 
-ready : (c : Call) (i : Inputs) (at : ℕ → Option ℕ) (pl : Places) → ((x : ℕ) → x < 64 → at x ≡ pl c.station x)
+ready : (c : Call Condition) (i : Inputs) (at : ℕ → Option ℕ) (pl : Places) → ((x : ℕ) → x < 64 → at x ≡ pl c.station x)
     → (0 < input_count i → first_input i < 64) → (1 < input_count i → second_input i < 64) → present (planned c i) pl ≡ true → Ready c i at pl
 ready c no_input at pl same l1 l2 h = record { words = Nothing; is = refl; asks = refl; first = refl; second = refl; count = refl }
 ready c (one_input a) at pl same l1 l2 h = go (at a) (pl c.station a) refl refl (same a (l1 (omega arith)))
@@ -225,7 +226,7 @@ module _ (m : Model) (rows : List Row) (L : ℕ) where
         subst (λ (x : Bool). Same late (begun_by m r n L (keeps_of rows) nk x (r k).sends j k T b) w) (sym eo)
         (subst (λ (x : Bool). Same late (begun_by m r n L (keeps_of rows) nk o x j k T b) w) (sym ed) al)
 
-    on_call : (k pc : ℕ) (go : ℕ → Bench S → Option (Bench S)) (b c : Bench S) (w : World S) (cl : Call) → row_at rows (nk + k) ≡ call_row cl
+    on_call : (k pc : ℕ) (go : ℕ → Bench S → Option (Bench S)) (b c : Bench S) (w : World S) (cl : Call Condition) → row_at rows (nk + k) ≡ call_row cl
         → k < n → mine j (r k) ≡ true → Same late b w → Going T w.state → guards k b ≡ true → go (suc pc) (begun k b) ≡ Some c
         → Leads b w go c (real.called m (input_words cl.inputs (word_in w.state (j / 2))) (nk + k) cl.work cl.output cl.duration j pc w)
     on_call k pc go b c w cl ex lk mi al g gd h =
@@ -288,7 +289,7 @@ module _ (m : Model) (rows : List Row) (L : ℕ) where
             (rd.first ∙ sym (ap (λ (x : Planned). said (ltb 0 x.count) (word1 x b.places)) rk))
             (rd.second ∙ sym (ap (λ (x : Planned). said (ltb 1 x.count) (word2 x b.places)) rk)) kn al))
 
-    on-send : (k pc : ℕ) (go : ℕ → Bench S → Option (Bench S)) (b c : Bench S) (w : World S) (s : Send) → row_at rows (nk + k) ≡ send_row s
+    on-send : (k pc : ℕ) (go : ℕ → Bench S → Option (Bench S)) (b c : Bench S) (w : World S) (s : Send Condition) → row_at rows (nk + k) ≡ send_row s
         → k < n → mine j (r k) ≡ true → Same late b w → Going T w.state → guards k b ≡ true → go (suc pc) (begun k b) ≡ Some c
         → Leads b w go c (real.performed m (act j (nk + k) (send_row s)) j pc w)
     on-send k pc go b c w s ex lk mi al g gd h = way (eqb s.station (j / 2)) refl

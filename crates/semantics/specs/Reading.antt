@@ -5,6 +5,7 @@ use Rattle.sheet.specs.declared.row.Relation.TheVariants.{Equal, Unequal}
 use Rattle.sheet.specs.declared.row.Test.{Test}
 use Rattle.sheet.specs.declared.row.Inputs.{Inputs}
 use Rattle.sheet.specs.declared.row.Inputs.TheVariants.{Nothing, Single, Pair}
+use Rattle.sheet.specs.declared.row.Condition.{Condition}
 use Rattle.sheet.specs.declared.row.Call.{Call}
 use Rattle.sheet.specs.declared.row.Send.{Send}
 use Rattle.sheet.specs.declared.row.Row.{Row}
@@ -77,16 +78,16 @@ word_of None = 0
 word_of (Some word) = word
 
 -- The work that a call asks for, with its input words.
-abbrev pub work_of : Call → Inputs → (ℕ → Option ℕ) → Work
+abbrev pub work_of : Call Condition → Inputs → (ℕ → Option ℕ) → Work
 work_of c Nothing at = record { station = c.station; number = c.work; count = 0; first = 0; second = 0 }
 work_of c (Single a) at = record { station = c.station; number = c.work; count = 1; first = word_of (at a); second = 0 }
 work_of c (Pair a b) at = record { station = c.station; number = c.work; count = 2; first = word_of (at a); second = word_of (at b) }
 
 -- Station n listens to a send.
-abbrev pub listens : Send → ℕ → Bool
+abbrev pub listens : Send Condition → ℕ → Bool
 listens s n = s.listeners / 2 ^ n % 2 == 1
 
-abbrev pub asks : Call → Places → Work
+abbrev pub asks : Call Condition → Places → Work
 asks c places = work_of c c.inputs (places c.station)
 
 -- 3. Calls and sends are taken from the top. One is performed if every test holds at its station.

@@ -20,10 +20,8 @@ pub data RowForm : Type 0 where
 
 abbrev pub form_of : RowBytes → RowForm
 form_of (keep_bytes k) = keep_form k
-form_of (call_bytes station work inputs output date duration condition) =
-    call_form station work inputs output date duration condition.now
-form_of (send_bytes station variable listeners date duration condition) =
-    send_form station variable listeners date duration condition.now
+form_of (call_bytes c) = call_form c.station c.work c.inputs c.output c.date c.duration c.condition.now
+form_of (send_bytes s) = send_form s.station s.variable s.listeners s.date s.duration s.condition.now
 
 -- What was read, with the position after it.
 abbrev pub shown_form : Result RowBytes (Fault Offset) → ℕ → Read RowForm

@@ -1,13 +1,11 @@
-use Rattle.std.specs.Prelude.{◌≡◌, ℕ, ◌≤◌, Bool, cond, ◌&&◌, List, [], ◌∷◌, ◌++◌, length, take, drop, Ok, Result, ◌==◌, nat_lt}
+use Rattle.std.specs.Prelude.{◌≡◌, ℕ, ◌≤◌, Bool, cond, ◌&&◌, List, ◌++◌, length, take, drop, Ok, Result, ◌==◌, nat_lt}
 use Rattle.fault.specs.declared.refusal.Fault.{Fault}
 use Rattle.fault.specs.declared.place.BytesPlace.{BytesPlace}
 use Rattle.sheet.specs.declared.row.Head.{Head}
 use Rattle.sheet.specs.declared.row.Row.{Row}
-use Rattle.sheet.specs.declared.row.Row.TheVariants.{Keep as keep_row, Call as call_row, Send as send_row}
 use Rattle.sheet.specs.Rows.{head_within}
-use Rattle.sheet.specs.Parts.{inputs_numbers}
 use Rattle.sheet.specs.Sheets.{sheet_in, too_short, head_outside}
-use Rattle.sheet.specs.Forms.{IsSheet, condition_numbers, sheet_form}
+use Rattle.sheet.specs.Forms.{IsSheet, sheet_form}
 
 -- A head that describes the rows: it is within its limits, and counts them.
 abbrev pub describes : Head → List Row → Bool
@@ -33,14 +31,3 @@ WrittenBack =
     (h : Head) (rows : List Row) (out : List ℕ) (room : ℕ) → IsSheet h rows → length (sheet_form h rows) ≤ length out → length rows ≤ room
     → (written_end h rows (length out) ≡ Ok (length (sheet_form h rows)))
     × (sheet_in (take (length (sheet_form h rows)) (written_bytes h rows out)) room ≡ Ok (h, rows))
-
--- The numbers of a row before its condition, and those of its condition.
-abbrev pub field_numbers : Row → List ℕ
-field_numbers (keep_row k) = 0 ∷ k.station ∷ k.taken ∷ k.given ∷ k.first ∷ []
-field_numbers (call_row c) = 1 ∷ c.station ∷ c.work ∷ (inputs_numbers c.inputs ++ c.output ∷ c.date ∷ c.duration ∷ [])
-field_numbers (send_row s) = 2 ∷ s.station ∷ s.variable ∷ s.listeners ∷ s.date ∷ s.duration ∷ []
-
-abbrev pub tail_numbers : Row → List ℕ
-tail_numbers (keep_row k) = []
-tail_numbers (call_row c) = condition_numbers c.condition
-tail_numbers (send_row s) = condition_numbers s.condition

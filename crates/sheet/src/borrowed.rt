@@ -14,23 +14,8 @@ use wire::Reader;
 #[derive(Clone, Copy)]
 pub enum RowBytes<'a> {
     Keep(Keep),
-    Call {
-        station: u32,
-        work: u32,
-        inputs: Inputs,
-        output: u32,
-        date: u32,
-        duration: u32,
-        condition: &'a [u8],
-    },
-    Send {
-        station: u32,
-        variable: u32,
-        listeners: u32,
-        date: u32,
-        duration: u32,
-        condition: &'a [u8],
-    },
+    Call(Call<&'a [u8]>),
+    Send(Send<&'a [u8]>),
 }
 
 fn read_test(reader: &mut Reader) -> Result<Test, Fault<Offset>>
@@ -118,7 +103,7 @@ fn call_bytes<'a>(reader: &mut Reader<'a>) -> Result<RowBytes<'a>, Fault<Offset>
     let date = reader.number()?;
     let duration = reader.number()?;
     let condition = condition_bytes(reader)?;
-    Ok(RowBytes::Call {
+    Ok(RowBytes::Call(Call {
         station,
         work,
         inputs,
@@ -126,7 +111,7 @@ fn call_bytes<'a>(reader: &mut Reader<'a>) -> Result<RowBytes<'a>, Fault<Offset>
         date,
         duration,
         condition,
-    })
+    }))
 }
 
 fn send_bytes<'a>(reader: &mut Reader<'a>) -> Result<RowBytes<'a>, Fault<Offset>>
@@ -139,14 +124,14 @@ fn send_bytes<'a>(reader: &mut Reader<'a>) -> Result<RowBytes<'a>, Fault<Offset>
     let date = reader.number()?;
     let duration = reader.number()?;
     let condition = condition_bytes(reader)?;
-    Ok(RowBytes::Send {
+    Ok(RowBytes::Send(Send {
         station,
         variable,
         listeners,
         date,
         duration,
         condition,
-    })
+    }))
 }
 
 // The next row, which borrows the bytes of its condition.
@@ -178,41 +163,26 @@ impl<'a> RowBytes<'a> {
     {
         match self {
             RowBytes::Keep(keep) => Ok(Row::Keep(keep)),
-            RowBytes::Call {
-                station,
-                work,
-                inputs,
-                output,
-                date,
-                duration,
-                condition,
-            } => {
-                let condition = decode_condition(condition)?;
+            RowBytes::Call(call) => {
+                let condition = decode_condition(call.condition)?;
                 Ok(Row::Call(Call {
-                    station,
-                    work,
-                    inputs,
-                    output,
-                    date,
-                    duration,
+                    station: call.station,
+                    work: call.work,
+                    inputs: call.inputs,
+                    output: call.output,
+                    date: call.date,
+                    duration: call.duration,
                     condition,
                 }))
             }
-            RowBytes::Send {
-                station,
-                variable,
-                listeners,
-                date,
-                duration,
-                condition,
-            } => {
-                let condition = decode_condition(condition)?;
+            RowBytes::Send(send) => {
+                let condition = decode_condition(send.condition)?;
                 Ok(Row::Send(Send {
-                    station,
-                    variable,
-                    listeners,
-                    date,
-                    duration,
+                    station: send.station,
+                    variable: send.variable,
+                    listeners: send.listeners,
+                    date: send.date,
+                    duration: send.duration,
                     condition,
                 }))
             }

@@ -1,5 +1,4 @@
 ghost use Rattle.std.specs.Prelude.{◌≡◌};
-ghost use Rattle.sheet.specs.Rows.{relation_code};
 ghost use Rattle.fault.specs.declared.refusal.Refusal.TheVariants.{Strange};
 ghost use Rattle.wire.specs.Numbers.{fault_at};
 ghost use Rattle.sheet.specs.Parts.{shown, relation_at, inputs_at};
@@ -49,15 +48,5 @@ pub fn read_inputs(reader: &mut Reader) -> Result<Inputs, Fault<Offset>>
             Ok(Inputs::Pair(first, second))
         }
         _ => Err(strange(start)),
-    }
-}
-
-// The number of a relation.
-pub fn relation_code(relation: Relation) -> u32
-    ensures { result ≡ relation_code relation }
-{
-    match relation {
-        Relation::Equal => 0,
-        Relation::Unequal => 1,
     }
 }

@@ -1,5 +1,5 @@
 ghost use Rattle.std.specs.Prelude.{◌≡◌, length};
-ghost use Rattle.sheet.specs.Rows.{tests_of, inputs_of, all_below, condition_of, no_row};
+ghost use Rattle.sheet.specs.Rows.{tests_of, inputs_of, all_below, condition_of, relation_code, no_row};
 ghost use Rattle.sheet.specs.Parts.{inputs_numbers};
 
 use arrayvec::ArrayVec;
@@ -13,12 +13,12 @@ pub struct Head {
     pub rows: u32,
 }
 
-// How a test compares a variable's word with its own.
+// How a test compares a variable's word with its own, by the number that it is written as.
 #[derive(Clone, Copy, PartialEq, Default)]
 pub enum Relation {
     #[default]
-    Equal,
-    Unequal,
+    Equal = 0,
+    Unequal = 1,
 }
 
 #[derive(Clone, Copy, PartialEq, Default)]
@@ -56,27 +56,28 @@ pub struct Keep {
     pub first: u32,
 }
 
-// A work that a station asks of the plant.
+// A work that a station asks of the plant. Its condition is the tests, or while a row is read their bytes.
 #[derive(Clone, Copy, PartialEq)]
-pub struct Call {
+pub struct Call<C = Condition> {
     pub station: u32,
     pub work: u32,
     pub inputs: Inputs,
     pub output: u32,
     pub date: u32,
     pub duration: u32,
-    pub condition: Condition,
+    pub condition: C,
 }
 
-// A word that a station sends to the listeners: bit n, worth 2 to the power n, names station n.
+// A word that a station sends to the listeners: bit n, worth 2 to the power n, names station n. Its condition is as a
+// call's.
 #[derive(Clone, Copy, PartialEq)]
-pub struct Send {
+pub struct Send<C = Condition> {
     pub station: u32,
     pub variable: u32,
     pub listeners: u32,
     pub date: u32,
     pub duration: u32,
-    pub condition: Condition,
+    pub condition: C,
 }
 
 #[derive(Clone, Copy, PartialEq)]
@@ -84,6 +85,14 @@ pub enum Row {
     Keep(Keep),
     Call(Call),
     Send(Send),
+}
+
+impl From<Relation> for u32 {
+    ghost from_gives = { λ relation code. code ≡ relation_code relation };
+
+    fn from(relation: Relation) -> u32 {
+        relation as u32
+    }
 }
 
 impl Condition {

@@ -4,7 +4,6 @@ ghost use Rattle.sheet.specs.Forms.{condition_numbers, row_numbers, rows_numbers
 ghost use Rattle.sheet.specs.Written.{written_end, written_bytes, WrittenBack};
 ghost use Rattle.arrayvec.specs.ArrayVec.{array_vec_len};
 
-use crate::parts::relation_code;
 use crate::reading::{head_outside, too_short};
 use crate::row::{Condition, Head, Row};
 use arrayvec::ArrayVec;
@@ -29,7 +28,7 @@ fn append_condition(numbers: &mut ArrayVec<u32, 22>, condition: Condition)
     for test in tests.as_slice() {
         append(
             numbers,
-            &[test.variable, relation_code(test.relation), test.word],
+            &[test.variable, u32::from(test.relation), test.word],
         );
     }
 }

@@ -1,7 +1,6 @@
 pub mod Steps
 pub mod Groups
 pub mod Forms
-pub mod Puts
 pub mod Spelled
 pub mod Faults
 pub mod Laid
