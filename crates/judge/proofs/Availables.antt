@@ -13,19 +13,16 @@ use Rattle.sheet.specs.declared.row.Send.{Send}
 use Rattle.judge.specs.declared.need.Need.{Need}
 use Rattle.sheet.specs.declared.row.Row.{Row}
 use Rattle.sheet.specs.declared.row.Row.TheVariants.{Keep as keep_row, Call as call_row, Send as send_row}
-use Rattle.sheet.specs.Rows.{tests_of, inputs_of, row_at}
+use Rattle.sheet.specs.Rows.{tests_of, inputs_of}
 use Rattle.judge.specs.Verdict.{provides, available, first_unavailable, listens, need_at, test_needs, input_needs, heard_needs, listener_needs, needs_of}
 use Rattle.judge.specs.Rules.{Listens, FieldsWithin, Provides, Available, TestsAvailable, ReadsAvailable}
 use Rattle.judge.specs.Right.{Met, FirstUnmet}
 use Rattle.judge.proofs.Decided.{provides-decides}
 use Rattle.judge.proofs.Searches.{some-decides}
-use Rattle.judge.proofs.Aboves.{above_same}
 
 pub met-decides : (rows : List Row) (r : ℕ) (w : Need) → r ≤ length rows → Decides (available (take r rows) w) (Met rows r w)
 met-decides rows r w l =
-    rw (above_same (λ x. provides x w) rows r l)
-    (some-decides (λ u. provides (row_at rows u) w) (λ u. Provides (row_at rows u) w.station w.variable w.date (tests_of w.after))
-    (λ u. provides-decides (row_at rows u) w) r)
+    some-decides (λ x. provides x w) (λ x. Provides x w.station w.variable w.date (tests_of w.after)) (λ x. provides-decides x w) rows r l
 
 -- The answer of the search among needs.
 abbrev pub UnavailableAt : List Row → ℕ → List Need → Option ℕ → Type 0

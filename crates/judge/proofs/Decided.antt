@@ -9,9 +9,9 @@ use Rattle.sheet.specs.declared.row.Test.{Test}
 use Rattle.sheet.specs.declared.row.Row.{Row}
 use Rattle.judge.specs.declared.need.Need.{Need}
 use Rattle.sheet.specs.declared.row.Row.TheVariants.{Keep as keep_row, Call as call_row, Send as send_row}
-use Rattle.sheet.specs.Rows.{tests_of, inputs_of, no_test}
+use Rattle.sheet.specs.Rows.{tests_of, inputs_of, all_below, no_test}
 use Rattle.judge.specs.Tests.{opposed_by, opposed, opposed_to, excluding, same_relation, alike, among, all_among, all_within, tested, none_twice}
-use Rattle.judge.specs.Verdict.{within_cycle, inputs_within, fields_within, is_keep, tested_once, two_writers, overlapping, provides, listens}
+use Rattle.judge.specs.Verdict.{within_cycle, fields_within, is_keep, tested_once, two_writers, overlapping, provides, listens}
 use Rattle.judge.specs.Rules.{Any, WithinCycle, TestsWithin, FieldsWithin, IsKeep, NoneTwice, TestedOnce, OpposedWords, Opposed, Exclude, SingleWriter, NoOverlap, Among, Provides}
 use Rattle.judge.proofs.Logic.{always, never, le-decides, not-lt-decides, twice-not, unless, not-both, any-decides, any_at, place_of}
 use Rattle.judge.proofs.Bitwise.{exist-decides}
@@ -64,8 +64,8 @@ tests-within h ts =
     Decides-by_and (λ t. ltb t.variable h.variables) (λ t. t.variable < h.variables) (all_within h.variables)
     (λ t. Decides-ltb t.variable h.variables) refl (λ _ _. refl) ts
 
-inputs-within : (n : ℕ) (vs : List ℕ) → Decides (inputs_within n vs) (AllByRecursion (λ v. v < n) vs)
-inputs-within n vs = Decides-by_and (λ v. ltb v n) (λ v. v < n) (inputs_within n) (λ v. Decides-ltb v n) refl (λ _ _. refl) vs
+inputs-within : (n : ℕ) (vs : List ℕ) → Decides (all_below n vs) (AllByRecursion (λ v. v < n) vs)
+inputs-within n vs = Decides-by_and (λ v. ltb v n) (λ v. v < n) (all_below n) (λ v. Decides-ltb v n) refl (λ _ _. refl) vs
 
 cycle-decides : (h : Head) (date duration : ℕ) → Decides (within_cycle date duration h.cycle) (WithinCycle h date duration)
 cycle-decides h date duration = Decides-and _ _ (Decides-ltb 0 duration) (le-decides (date + duration) h.cycle)

@@ -1,9 +1,7 @@
-pub mod Aboves
 pub mod Availables
 pub mod Bitwise
 pub mod Decided
 pub mod Logic
 pub mod Searches
-pub mod Steps
 pub mod Theorem
 pub mod Unavailables

@@ -1,36 +1,51 @@
-use Rattle.std.proofs.Common.{◌≡◌, ℕ, zero, suc, ◌+◌, ◌<◌, ◌≤◌, Bool, true, false, cond, not, is_some, Some, None, Decides, Option, sym, refl, ◌∙◌, ⊎_elim, arith}
-use Rattle.std.proofs.lemmas.Bool.{cases_eq, false≢true}
-use Rattle.judge.specs.Places.{first_place}
+use Rattle.std.proofs.Common.{◌≡◌, ℕ, ◌<◌, ◌≤◌, Bool, true, false, cond, not, ltb, List, length, take, Some, None, Decides, Option, refl, arith}
+use Rattle.std.specs.List.{list_any, list_all, position, position_or_len}
+use Rattle.std.proofs.ByRecursion.{Decides-by_and, All-get_or, All-from_get_or}
+use Rattle.std.proofs.lemmas.Bool.{ltb-false, ltb-true, false≢true}
+use Rattle.std.proofs.lemmas.Bool.Decides.{Decides-like}
+use Rattle.std.proofs.lemmas.List.{length-take-le, get_or-take}
+use Rattle.std.proofs.lemmas.List.Sums.{fails_before_first, passes_at_first}
+use Rattle.sheet.specs.declared.row.Row.{Row}
+use Rattle.sheet.specs.Rows.{row_at, no_row}
+use Rattle.judge.proofs.Logic.{any-decides, any_at, place_of}
 
--- What holds at `i` and at all that is later holds from `i` on.
-from-here : (P : ℕ → Type 0) (i k : ℕ) → i ≤ k → P i → (i + 1 ≤ k → P k) → P k
-from-here P i k h here later =
-    ⊎_elim (λ (e : k ≡ i). rw e here) (λ (n : k ≡ i → ⊥). later (omega arith)) (cases_eq k i)
+-- The first of the places below `n` that passes a test, or that none does.
+abbrev pub PlaceBelow : (ℕ → Bool) → ℕ → Option ℕ → Type 0
+PlaceBelow p n None = (k : ℕ) → k < n → p k ≡ false
+PlaceBelow p n (Some j) = (j < n) × (p j ≡ true) × ((k : ℕ) → k < j → p k ≡ false)
 
-abbrev pub PlaceFrom : (ℕ → Bool) → ℕ → ℕ → Option ℕ → Type 0
-PlaceFrom p n i None = (k : ℕ) → i ≤ k → k < i + n → p k ≡ false
-PlaceFrom p n i (Some j) = (i ≤ j) × (j < i + n) × (p j ≡ true) × ((k : ℕ) → i ≤ k → k < j → p k ≡ false)
+-- The rows above the row at `r` are the first `r` rows.
+module _ (p : Row → Bool) (rows : List Row) (r : ℕ) (l : r ≤ length rows) where
+  row-above : (u : ℕ) → u < r → row_at (take r rows) u ≡ row_at rows u
+  row-above u h = get_or-take r rows u no_row h
 
-place-step : (p : ℕ → Bool) (n i : ℕ) (b : Bool) (r : Option ℕ) → p i ≡ b → PlaceFrom p n (i + 1) r
-    → PlaceFrom p (suc n) i (cond b (Some i) r)
-place-step p n i true r e a = (omega arith, omega arith, e, λ k h l. absurd (omega arith))
-place-step p n i false None e a =
-    λ k h l. from-here (λ m. p m ≡ false) i k h e (λ m. a k m (omega arith))
-place-step p n i false (Some j) e a =
-    (omega (arith, a.0), omega (arith, a.1), a.2, λ k h l. from-here (λ m. p m ≡ false) i k h e (λ m. a.3 k m l))
+  place-step : (n : ℕ) (b : Bool) → n ≡ position_or_len p (take r rows) → ltb n (length (take r rows)) ≡ b
+      → PlaceBelow (λ u. p (row_at rows u)) r (cond b (Some n) None)
+  place-step n true e t =
+      let h : n < r = omega (arith, ltb-true n (length (take r rows)) t, length-take-le r rows l) in
+      (h, rw (← row-above n h, e) (passes_at_first p (take r rows) no_row (rw e at (ltb-true n (length (take r rows)) t))), λ k m. rw (← row-above k (omega arith)) (fails_before_first p (take r rows) k no_row (rw e at m)))
+  place-step n false e t =
+      let h : r ≤ n = omega (arith, ltb-false n (length (take r rows)) t, length-take-le r rows l) in
+      λ k m. rw (← row-above k m) (fails_before_first p (take r rows) k no_row (omega arith))
 
-pub place-answers : (p : ℕ → Bool) (n i : ℕ) → PlaceFrom p n i (first_place p n i)
-place-answers p zero i = λ k h l. absurd (omega arith)
-place-answers p (suc n) i = place-step p n i (p i) (first_place p n (i + 1)) refl (place-answers p n (i + 1))
+  pub place-answers : PlaceBelow (λ u. p (row_at rows u)) r (position p (take r rows))
+  place-answers = place-step (position_or_len p (take r rows)) (ltb (position_or_len p (take r rows)) (length (take r rows))) refl refl
 
--- Whether some place below `n` is so, and whether none is.
-module _ (p : ℕ → Bool) (P : ℕ → Type 0) (each : (u : ℕ) → Decides (p u) (P u)) where
-  some_at : (n : ℕ) (o : Option ℕ) → PlaceFrom p n 0 o → Decides (is_some o) ((u : ℕ) × (u < n) × P u)
-  some_at n None a = (λ e. absurd (false≢true e), λ s. absurd (false≢true (sym (a s.0 (omega arith) (omega (arith, s.1))) ∙ (each s.0).1 s.2)))
-  some_at n (Some j) a = (λ e. (j, omega (arith, a.1), (each j).0 a.2), λ s. refl)
+-- Whether some row above is so, and whether all are.
+module _ (p : Row → Bool) (P : Row → Type 0) (each : (x : Row) → Decides (p x) (P x)) (rows : List Row) (r : ℕ) (l : r ≤ length rows) where
+  pub some-decides : Decides (list_any p (take r rows)) ((u : ℕ) × (u < r) × P (row_at rows u))
+  some-decides =
+      Decides-like _
+      (λ a. let k = place_of P no_row (take r rows) a in let h : k.0 < r = omega (arith, k.1, length-take-le r rows l) in (k.0, h, rw (row-above p rows r l k.0 h) at k.2))
+      (λ a. any_at P no_row (take r rows) a.0 (omega (arith, a.1, length-take-le r rows l)) (rw (row-above p rows r l a.0 a.1) a.2))
+      (any-decides p P (list_any p) each refl (λ _ _. refl) (take r rows))
 
-  pub some-decides : (n : ℕ) → Decides (is_some (first_place p n 0)) ((u : ℕ) × (u < n) × P u)
-  some-decides n = some_at n (first_place p n 0) (place-answers p n 0)
+  pub all-decides : Decides (list_all p (take r rows)) ((u : ℕ) → u < r → P (row_at rows u))
+  all-decides =
+      Decides-like _
+      (λ a u h. rw (row-above p rows r l u h) at (All-get_or P (take r rows) u no_row (omega (arith, length-take-le r rows l)) a))
+      (λ f. All-from_get_or P (take r rows) no_row (λ u h. let m : u < r = omega (arith, h, length-take-le r rows l) in rw (row-above p rows r l u m) (f u m)))
+      (Decides-by_and p P (list_all p) each refl (λ _ _. refl) (take r rows))
 
 pub not-of : (b : Bool) → b ≡ false → not b ≡ true
 not-of b e = rw e
@@ -38,11 +53,3 @@ not-of b e = rw e
 pub not-off : (b : Bool) → b ≡ true → not b ≡ true → ⊥
 not-off true e n = false≢true n
 not-off false e n = false≢true e
-
-module _ (p : ℕ → Bool) (Q : ℕ → Type 0) (each : (u : ℕ) → Decides (not (p u)) (Q u)) where
-  none-at : (n : ℕ) (o : Option ℕ) → PlaceFrom p n 0 o → Decides (not (is_some o)) ((u : ℕ) → u < n → Q u)
-  none-at n None a = (λ e u h. (each u).0 (not-of (p u) (a u (omega arith) (omega arith))), λ s. refl)
-  none-at n (Some j) a = (λ e. absurd (false≢true e), λ s. absurd (not-off (p j) a.2 ((each j).1 (s j (omega (arith, a.1))))))
-
-  pub none-decides : (n : ℕ) → Decides (not (is_some (first_place p n 0))) ((u : ℕ) → u < n → Q u)
-  none-decides n = none-at n (first_place p n 0) (place-answers p n 0)

@@ -1,4 +1,4 @@
-use Rattle.std.proofs.Common.{◌≡◌, ℕ, ◌<◌, ◌≤◌, Bool, true, false, cond, not, List, length, take, is_some, Some, None, Decides, Option, refl, arith}
+use Rattle.std.proofs.Common.{◌≡◌, ℕ, ◌<◌, ◌≤◌, Bool, true, false, cond, List, length, take, is_some, Some, None, Decides, Option, refl, arith}
 use Rattle.std.specs.List.{AllByRecursion}
 use Rattle.std.proofs.ByRecursion.{All-get_or}
 use Rattle.std.proofs.lemmas.Bool.{true≢false, false≢true}
@@ -19,32 +19,19 @@ use Rattle.judge.specs.Verdict.{is_keep, placed, within, tested_once, two_writer
 use Rattle.judge.specs.Rules.{IsKeep, Placed, SingleWriter, NoOverlap, RowRules, Rules}
 use Rattle.judge.specs.Right.{Within, TestedOnceAt, WritersTo, NoOverlapTo, Met, FirstUnmet, Broken, Right, AcceptsExactly, NamesFirst}
 use Rattle.std.proofs.lemmas.List.{length-take-le}
-use Rattle.judge.proofs.Aboves.{above_same}
-use Rattle.judge.proofs.Logic.{always, twice-not}
+use Rattle.judge.proofs.Logic.{always}
 use Rattle.judge.proofs.Decided.{fields-decides, keep-decides, once-decides, writer-decides, overlap-decides}
-use Rattle.judge.proofs.Searches.{PlaceFrom, place-answers, none-decides, not-of, not-off}
+use Rattle.judge.proofs.Searches.{PlaceBelow, place-answers, all-decides, not-of, not-off}
 use Rattle.judge.proofs.Availables.{UnavailableAt, unavailable-answers, reads-to, reads-from}
 
 placed-decides : (rows : List Row) (r : ℕ) (x : Row) → r ≤ length rows → Decides (placed (take r rows) x) (Placed rows r x)
 placed-decides rows r (keep_row k) l =
-    rw (above_same (λ x. not (is_keep x)) rows r l, length-take-le r rows l)
-    (Decides-and _ _ (Decides-ltb r 16)
-    (none-decides (λ u. not (is_keep (row_at rows u))) (λ u. IsKeep (row_at rows u)) (λ u. twice-not _ (keep-decides (row_at rows u))) r))
+    rw (length-take-le r rows l) (Decides-and _ _ (Decides-ltb r 16) (all-decides is_keep IsKeep keep-decides rows r l))
 placed-decides rows r (call_row c) l = always
 placed-decides rows r (send_row s) l = always
 
 within-decides : (h : Head) (rows : List Row) (r : ℕ) → r ≤ length rows → Decides (within h (take r rows) (row_at rows r)) (Within h rows r)
 within-decides h rows r l = Decides-and _ _ (fields-decides h (row_at rows r)) (placed-decides rows r (row_at rows r) l)
-
-writer-answers : (rows : List Row) (r : ℕ) (x : Row) → r ≤ length rows
-    → PlaceFrom (λ u. two_writers (row_at rows u) x) r 0 (first_writer (take r rows) x)
-writer-answers rows r x l =
-    rw (above_same (λ u. two_writers u x) rows r l) (place-answers (λ u. two_writers (row_at rows u) x) r 0)
-
-overlap-answers : (rows : List Row) (r : ℕ) (x : Row) → r ≤ length rows
-    → PlaceFrom (λ u. overlapping (row_at rows u) x) r 0 (first_overlap (take r rows) x)
-overlap-answers rows r x l =
-    rw (above_same (λ u. overlapping u x) rows r l) (place-answers (λ u. overlapping (row_at rows u) x) r 0)
 
 -- What is said of one row is right.
 module _ (h : Head) (rows : List Row) (r : ℕ) where
@@ -71,10 +58,10 @@ module _ (h : Head) (rows : List Row) (r : ℕ) where
       not-off (two_writers (row_at rows u) (row_at rows r)) e ((writer-decides (row_at rows u) (row_at rows r)).1 o)
 
   after-writers : (o : Option ℕ) (rest : Option Breach) → Within h rows r → TestedOnceAt rows r
-      → PlaceFrom (λ u. two_writers (row_at rows u) (row_at rows r)) r 0 o → (WritersTo rows r r → RowRight rest) → RowRight (or_writers o rest)
-  after-writers None rest w n a k = k (λ u l. writer-kept u (a u (omega arith) (omega arith)))
+      → PlaceBelow (λ u. two_writers (row_at rows u) (row_at rows r)) r o → (WritersTo rows r r → RowRight rest) → RowRight (or_writers o rest)
+  after-writers None rest w n a k = k (λ u l. writer-kept u (a u l))
   after-writers (Some u) rest w n a k =
-      ((w, n, omega (arith, a.1), writer-lost u a.2, λ j l. writer-kept j (a.3 j (omega arith) l)), λ s. writer-lost u a.2 (s.writers u (omega (arith, a.1))))
+      ((w, n, a.0, writer-lost u a.1, λ j l. writer-kept j (a.2 j l)), λ s. writer-lost u a.1 (s.writers u (a.0)))
 
   overlap-kept : (u : ℕ) → overlapping (row_at rows u) (row_at rows r) ≡ false → NoOverlap (row_at rows u) (row_at rows r)
   overlap-kept u e = (overlap-decides (row_at rows u) (row_at rows r)).0 (not-of (overlapping (row_at rows u) (row_at rows r)) e)
@@ -84,10 +71,10 @@ module _ (h : Head) (rows : List Row) (r : ℕ) where
       not-off (overlapping (row_at rows u) (row_at rows r)) e ((overlap-decides (row_at rows u) (row_at rows r)).1 o)
 
   after-overlap : (o : Option ℕ) (rest : Option Breach) → Within h rows r → TestedOnceAt rows r → WritersTo rows r r
-      → PlaceFrom (λ u. overlapping (row_at rows u) (row_at rows r)) r 0 o → (NoOverlapTo rows r r → RowRight rest) → RowRight (or_clash o rest)
-  after-overlap None rest w n t a k = k (λ u l. overlap-kept u (a u (omega arith) (omega arith)))
+      → PlaceBelow (λ u. overlapping (row_at rows u) (row_at rows r)) r o → (NoOverlapTo rows r r → RowRight rest) → RowRight (or_clash o rest)
+  after-overlap None rest w n t a k = k (λ u l. overlap-kept u (a u l))
   after-overlap (Some u) rest w n t a k =
-      ((w, n, t, omega (arith, a.1), overlap-lost u a.2, λ j l. overlap-kept j (a.3 j (omega arith) l)), λ s. overlap-lost u a.2 (s.overlaps u (omega (arith, a.1))))
+      ((w, n, t, a.0, overlap-lost u a.1, λ j l. overlap-kept j (a.2 j l)), λ s. overlap-lost u a.1 (s.overlaps u (a.0)))
 
   unmet : (ws : List Need) (v : ℕ) → FirstUnmet rows r ws v → AllByRecursion (Met rows r) ws → ⊥
   unmet ws v f a = (f.2 (need_at 0 0 0 Always)).1 (All-get_or (Met rows r) ws f.0 (need_at 0 0 0 Always) f.1 a)
@@ -103,8 +90,8 @@ module _ (h : Head) (rows : List Row) (r : ℕ) where
   row-right l =
       after-within (within h (take r rows) (row_at rows r)) _ (within-decides h rows r l) (λ w.
       after-once (tested_once (row_at rows r)) _ w (once-decides (row_at rows r)) (λ n.
-      after-writers (first_writer (take r rows) (row_at rows r)) _ w n (writer-answers rows r (row_at rows r) l) (λ t.
-      after-overlap (first_overlap (take r rows) (row_at rows r)) _ w n t (overlap-answers rows r (row_at rows r) l) (λ p.
+      after-writers (first_writer (take r rows) (row_at rows r)) _ w n (place-answers (λ x. two_writers x (row_at rows r)) rows r l) (λ t.
+      after-overlap (first_overlap (take r rows) (row_at rows r)) _ w n t (place-answers (λ x. overlapping x (row_at rows r)) rows r l) (λ p.
       after-all (first_unavailable (take r rows) (needs_of h (row_at rows r))) w n t p (unavailable-answers rows r (needs_of h (row_at rows r)) l)))))
 
 row_kept : (h : Head) (rows : List Row) (r : ℕ) → r ≤ length rows → breach_of h (take r rows) (row_at rows r) ≡ None → RowRules h rows r

@@ -1,4 +1,3 @@
-pub mod Places
 pub mod Right
 pub mod Rules
 pub mod Tests

@@ -1,4 +1,5 @@
-use Rattle.std.specs.Prelude.{ℕ, Bool, true, false, not, ◌&&◌, ◌||◌, List, [], ◌∷◌, ◌==◌, nat_lt}
+use Rattle.std.specs.Prelude.{ℕ, Bool, true, false, not, ◌&&◌, List, [], ◌∷◌, ◌==◌, nat_lt}
+use Rattle.std.specs.List.{list_any, list_all}
 use Rattle.sheet.specs.declared.row.Relation.{Relation}
 use Rattle.sheet.specs.declared.row.Relation.TheVariants.{Equal, Unequal}
 use Rattle.sheet.specs.declared.row.Test.{Test}
@@ -14,13 +15,11 @@ abbrev pub opposed : Test → Test → Bool
 opposed s t = s.variable == t.variable && opposed_by s.relation s.word t.relation t.word
 
 abbrev pub opposed_to : Test → List Test → Bool
-opposed_to s [] = false
-opposed_to s (t ∷ ts) = opposed s t || opposed_to s ts
+opposed_to s ts = list_any (opposed s) ts
 
 -- Whether two conditions exclude each other.
 abbrev pub excluding : List Test → List Test → Bool
-excluding [] ts = false
-excluding (s ∷ ss) ts = opposed_to s ts || excluding ss ts
+excluding ss ts = list_any (λ s. opposed_to s ts) ss
 
 abbrev pub same_relation : Relation → Relation → Bool
 same_relation Equal Equal = true
@@ -32,20 +31,16 @@ abbrev pub alike : Test → Test → Bool
 alike s t = s.variable == t.variable && (s.word == t.word && same_relation s.relation t.relation)
 
 abbrev pub among : Test → List Test → Bool
-among s [] = false
-among s (t ∷ ts) = alike s t || among s ts
+among s ts = list_any (alike s) ts
 
 abbrev pub all_among : List Test → List Test → Bool
-all_among [] ts = true
-all_among (s ∷ ss) ts = among s ts && all_among ss ts
+all_among ss ts = list_all (λ s. among s ts) ss
 
 abbrev pub all_within : ℕ → List Test → Bool
-all_within n [] = true
-all_within n (t ∷ ts) = nat_lt t.variable n && all_within n ts
+all_within n ts = list_all (λ t. nat_lt t.variable n) ts
 
 abbrev pub tested : ℕ → List Test → Bool
-tested v [] = false
-tested v (t ∷ ts) = v == t.variable || tested v ts
+tested v ts = list_any (λ t. v == t.variable) ts
 
 abbrev pub none_twice : List Test → Bool
 none_twice [] = true

@@ -1,13 +1,15 @@
-use Rattle.std.specs.Prelude.{ℕ, zero, suc, ◌+◌, ◌/◌, ◌%◌, ◌^◌, Bool, true, false, cond, not, ◌&&◌, List, [], ◌∷◌, ◌++◌, length, take, is_some, Some, None, Ok, Err, Option, Result, ◌==◌, nat_le, nat_lt}
+use Rattle.std.specs.Prelude.{ℕ, zero, suc, ◌+◌, ◌/◌, ◌%◌, ◌^◌, Bool, true, false, cond, not, ◌&&◌, List, [], ◌∷◌, ◌++◌, map, length, take, Some, None, Ok, Err, Option, Result, ◌==◌, nat_le, nat_lt}
+use Rattle.std.specs.List.{list_any, list_all, position}
 use Rattle.sheet.specs.declared.row.Head.{Head}
 use Rattle.sheet.specs.declared.row.Condition.{Condition}
 use Rattle.sheet.specs.declared.row.Condition.TheVariants.{Always, One, Two, Three, Four}
 use Rattle.sheet.specs.declared.row.Inputs.{Inputs}
-use Rattle.sheet.specs.declared.row.Inputs.TheVariants.{Nothing, Single, Pair}
+use Rattle.sheet.specs.declared.row.Test.{Test}
 use Rattle.sheet.specs.declared.row.Keep.{Keep}
 use Rattle.sheet.specs.declared.row.Call.{Call}
 use Rattle.sheet.specs.declared.row.Send.{Send}
 use Rattle.judge.specs.declared.need.Need.{Need}
+use Rattle.judge.specs.declared.need.Missing.{Missing}
 use Rattle.sheet.specs.declared.row.Row.{Row}
 use Rattle.sheet.specs.declared.row.Row.TheVariants.{Keep as keep_row, Call as call_row, Send as send_row}
 use Rattle.judge.specs.declared.breach.Breach.{Breach}
@@ -17,8 +19,7 @@ use Rattle.fault.specs.declared.place.RowPlace.TheVariants.{Row as of_row, Rows 
 use Rattle.fault.specs.declared.refusal.Refusal.TheVariants.{Outside as outside_limits, TestedTwice as tested_twice, TwoWriters as two_writers_met, Clash as clash, Unavailable as unavailable}
 use Rattle.fault.specs.declared.refusal.Fault.{Fault}
 use Rattle.fault.specs.Scan.{first_bad}
-use Rattle.sheet.specs.Rows.{tests_of, inputs_of, row_at}
-use Rattle.judge.specs.Places.{first_place}
+use Rattle.sheet.specs.Rows.{tests_of, inputs_of, all_below}
 use Rattle.judge.specs.Tests.{excluding, all_among, all_within, none_twice}
 
 -- Fields within their limits, and keep rows in their place (7).
@@ -32,10 +33,6 @@ listeners_exist listeners stations = nat_lt listeners (2 ^ stations)
 abbrev pub within_cycle : ℕ → ℕ → ℕ → Bool
 within_cycle date duration cycle = nat_lt 0 duration && nat_le (date + duration) cycle
 
-abbrev pub inputs_within : ℕ → List ℕ → Bool
-inputs_within n [] = true
-inputs_within n (v ∷ vs) = nat_lt v n && inputs_within n vs
-
 abbrev pub keep_within : Head → Keep → Bool
 keep_within h k = nat_lt k.station h.stations && (nat_lt k.taken h.variables && nat_lt k.given h.variables)
 
@@ -43,7 +40,7 @@ abbrev pub call_within : Head → Call Condition → Bool
 call_within h c =
     nat_lt c.station h.stations
     && (nat_le c.work 255
-    && (inputs_within h.variables (inputs_of c.inputs)
+    && (all_below h.variables (inputs_of c.inputs)
     && (nat_lt c.output h.variables
     && (within_cycle c.date c.duration h.cycle
     && all_within h.variables (tests_of c.condition)))))
@@ -69,7 +66,7 @@ is_keep (call_row c) = false
 is_keep (send_row s) = false
 
 abbrev pub only_keeps : List Row → Bool
-only_keeps above = not (is_some (first_place (λ u. not (is_keep (row_at above u))) (length above) 0))
+only_keeps above = list_all is_keep above
 
 abbrev pub placed : List Row → Row → Bool
 placed above (keep_row k) = nat_lt (length above) 16 && only_keeps above
@@ -120,10 +117,10 @@ overlapping (send_row s) (call_row c) = false
 overlapping (send_row s) (send_row t) = sends_overlap s t
 
 abbrev pub first_writer : List Row → Row → Option ℕ
-first_writer above x = first_place (λ u. two_writers (row_at above u) x) (length above) 0
+first_writer above x = position (λ u. two_writers u x) above
 
 abbrev pub first_overlap : List Row → Row → Option ℕ
-first_overlap above x = first_place (λ u. overlapping (row_at above u) x) (length above) 0
+first_overlap above x = position (λ u. overlapping u x) above
 
 -- What is available (11).
 
@@ -139,11 +136,12 @@ provides (send_row s) w =
     && (nat_le (s.date + s.duration) w.date && all_among (tests_of s.condition) (tests_of w.after)))
 
 abbrev pub available : List Row → Need → Bool
-available above w = is_some (first_place (λ u. provides (row_at above u) w) (length above) 0)
+available above w = list_any (λ u. provides u w) above
 
-abbrev pub missing : Result (Unit {0}) ℕ → Option ℕ
+-- The variable that a refusal names.
+abbrev pub missing : Result (Unit {0}) Missing → Option ℕ
 missing (Ok x) = None
-missing (Err v) = Some v
+missing (Err m) = Some m.variable
 
 abbrev pub first_unavailable : List Row → List Need → Option ℕ
 first_unavailable above [] = None
@@ -151,6 +149,14 @@ first_unavailable above (w ∷ ws) = cond (available above w) (first_unavailable
 
 abbrev pub need_at : ℕ → ℕ → ℕ → Condition → Need
 need_at station date variable after = record { station = station; variable = variable; date = date; after = after }
+
+-- The condition with one more test, where it has fewer than four.
+abbrev pub joined : Condition → Test → Condition
+joined Always t = One t
+joined (One a) t = Two a t
+joined (Two a b) t = Three a b t
+joined (Three a b c) t = Four a b c t
+joined (Four a b c d) t = Four a b c d
 
 -- Each tested variable, after the tests before it.
 abbrev pub test_needs : ℕ → ℕ → Condition → List Need
@@ -165,10 +171,7 @@ test_needs s d (Four t u v x) =
 
 -- Each input, after all tests.
 abbrev pub input_needs : Call Condition → Inputs → List Need
-input_needs c Nothing = []
-input_needs c (Single a) = need_at c.station c.date a c.condition ∷ []
-input_needs c (Pair a b) =
-    need_at c.station c.date a c.condition ∷ need_at c.station c.date b c.condition ∷ []
+input_needs c i = map (λ v. need_at c.station c.date v c.condition) (inputs_of i)
 
 -- Each tested variable at the station `n`, if it listens.
 abbrev pub heard_needs : Send Condition → ℕ → List Need

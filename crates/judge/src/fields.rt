@@ -1,9 +1,8 @@
 ghost use Rattle.std.specs.Prelude.{◌≡◌, ◌+◌};
-ghost use Rattle.sheet.specs.Rows.{inputs_of};
-ghost use Rattle.judge.specs.Verdict.{listens, listeners_exist, within_cycle, inputs_within, keep_within, call_within, send_within, fields_within, is_keep, only_keeps, placed, within};
+ghost use Rattle.judge.specs.Verdict.{listens, listeners_exist, within_cycle, keep_within, call_within, send_within, fields_within, is_keep, only_keeps, placed, within};
 
 use crate::condition::tests_within;
-use sheet::{Call, Head, Inputs, Keep, Row, Send};
+use sheet::{Call, Head, Keep, Row, Send};
 
 // The date at which a row ends.
 pub fn ends_at(date: u32, duration: u32) -> u64
@@ -33,16 +32,6 @@ fn within_cycle(date: u32, duration: u32, cycle: u32) -> bool
     duration > 0 && ends_at(date, duration) <= u64::from(cycle)
 }
 
-fn inputs_within(inputs: Inputs, variables: u32) -> bool
-    ensures { result ≡ inputs_within variables (inputs_of inputs) }
-{
-    match inputs {
-        Inputs::Nothing => true,
-        Inputs::Single(a) => a < variables,
-        Inputs::Pair(a, b) => a < variables && b < variables,
-    }
-}
-
 fn keep_within(head: Head, k: Keep) -> bool
     ensures { result ≡ keep_within head k }
 {
@@ -54,7 +43,7 @@ fn call_within(head: Head, c: Call) -> bool
 {
     c.station < head.stations
         && c.work <= 255
-        && inputs_within(c.inputs, head.variables)
+        && c.inputs.all_below(head.variables)
         && c.output < head.variables
         && within_cycle(c.date, c.duration, head.cycle)
         && tests_within(c.condition, head.variables)
@@ -85,23 +74,14 @@ fn fields_within(head: Head, row: Row) -> bool
 fn is_keep(row: Row) -> bool
     ensures { result ≡ is_keep row }
 {
-    match row {
-        Row::Keep(_) => true,
-        Row::Call(_) => false,
-        Row::Send(_) => false,
-    }
+    matches!(row, Row::Keep(_))
 }
 
 // Whether only keep rows stand above.
 fn only_keeps(above: &[Row]) -> bool
     ensures { result ≡ only_keeps above.now }
 {
-    for u in 0..above.len() {
-        if !is_keep(above[u]) {
-            return false;
-        }
-    }
-    true
+    above.iter().all(|u| is_keep(*u))
 }
 
 fn well_placed(above: &[Row], row: Row) -> bool
@@ -109,8 +89,7 @@ fn well_placed(above: &[Row], row: Row) -> bool
 {
     match row {
         Row::Keep(_) => above.len() < 16 && only_keeps(above),
-        Row::Call(_) => true,
-        Row::Send(_) => true,
+        Row::Call(_) | Row::Send(_) => true,
     }
 }
 

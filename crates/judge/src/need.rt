@@ -8,3 +8,9 @@ pub struct Need {
     pub date: u32,
     pub after: Condition,
 }
+
+// The first variable that is needed and that no row above provides.
+#[derive(Clone, Copy)]
+pub struct Missing {
+    pub variable: u32,
+}

@@ -9,18 +9,14 @@ use sheet::{Call, Row, Send};
 fn is_second_writer(upper: Row, lower: Row) -> bool
     ensures { result ≡ two_writers upper lower }
 {
-    match upper {
-        Row::Keep(k) => match lower {
-            Row::Keep(l) => k.given == l.given,
-            Row::Call(c) => k.given == c.output,
-            Row::Send(_) => false,
-        },
-        Row::Call(c) => match lower {
-            Row::Keep(k) => c.output == k.given,
-            Row::Call(d) => c.output == d.output && !excludes(c.condition, d.condition),
-            Row::Send(_) => false,
-        },
-        Row::Send(_) => false,
+    match (upper, lower) {
+        (Row::Keep(k), Row::Keep(l)) => k.given == l.given,
+        (Row::Keep(k), Row::Call(c)) => k.given == c.output,
+        (Row::Call(c), Row::Keep(k)) => c.output == k.given,
+        (Row::Call(c), Row::Call(d)) => {
+            c.output == d.output && !excludes(c.condition, d.condition)
+        }
+        (Row::Send(_), _) | (_, Row::Send(_)) => false,
     }
 }
 
@@ -44,18 +40,10 @@ fn sends_overlap(upper: Send, lower: Send) -> bool
 fn is_overlapping(upper: Row, lower: Row) -> bool
     ensures { result ≡ overlapping upper lower }
 {
-    match upper {
-        Row::Keep(_) => false,
-        Row::Call(c) => match lower {
-            Row::Keep(_) => false,
-            Row::Call(d) => calls_overlap(c, d),
-            Row::Send(_) => false,
-        },
-        Row::Send(s) => match lower {
-            Row::Keep(_) => false,
-            Row::Call(_) => false,
-            Row::Send(t) => sends_overlap(s, t),
-        },
+    match (upper, lower) {
+        (Row::Call(c), Row::Call(d)) => calls_overlap(c, d),
+        (Row::Send(s), Row::Send(t)) => sends_overlap(s, t),
+        _ => false,
     }
 }
 
@@ -63,22 +51,12 @@ fn is_overlapping(upper: Row, lower: Row) -> bool
 pub fn first_writer(above: &[Row], row: Row) -> Option<usize>
     ensures { result ≡ first_writer above.now row }
 {
-    for u in 0..above.len() {
-        if is_second_writer(above[u], row) {
-            return Some(u);
-        }
-    }
-    None
+    above.iter().position(|u| is_second_writer(*u, row))
 }
 
 // The topmost row above that overlaps.
 pub fn first_overlap(above: &[Row], row: Row) -> Option<usize>
     ensures { result ≡ first_overlap above.now row }
 {
-    for u in 0..above.len() {
-        if is_overlapping(above[u], row) {
-            return Some(u);
-        }
-    }
-    None
+    above.iter().position(|u| is_overlapping(*u, row))
 }

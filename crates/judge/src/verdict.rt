@@ -14,11 +14,7 @@ use sheet::{Head, Row};
 fn tested_once(row: Row) -> bool
     ensures { result ≡ tested_once row }
 {
-    match row {
-        Row::Keep(_) => true,
-        Row::Call(c) => none_twice(c.condition),
-        Row::Send(s) => none_twice(s.condition),
-    }
+    none_twice(row.condition())
 }
 
 impl Rule<SheetRules> for Row {
@@ -39,38 +35,26 @@ impl Rule<SheetRules> for Row {
         if let Some(u) = first_overlap(above, *self) {
             return Some(Breach::Clash(u));
         }
-        if let Err(v) = require_all(ctx.head, above, *self) {
-            return Some(Breach::Unavailable(v));
-        }
-        None
+        require_all(ctx.head, above, *self)
+            .err()
+            .map(|missing| Breach::Unavailable(missing.variable))
     }
 }
 
 fn fault_of(row: usize, breach: Breach) -> Fault<RowPlace>
     ensures { result ≡ fault_of row breach }
 {
-    match breach {
-        Breach::Outside => Fault {
-            refusal: Refusal::Outside,
-            place: RowPlace::Row(row),
-        },
-        Breach::TestedTwice => Fault {
-            refusal: Refusal::TestedTwice,
-            place: RowPlace::Row(row),
-        },
-        Breach::TwoWriters(upper) => Fault {
-            refusal: Refusal::TwoWriters,
-            place: RowPlace::Rows { lower: row, upper },
-        },
-        Breach::Clash(upper) => Fault {
-            refusal: Refusal::Clash,
-            place: RowPlace::Rows { lower: row, upper },
-        },
-        Breach::Unavailable(variable) => Fault {
-            refusal: Refusal::Unavailable,
-            place: RowPlace::Variable { row, variable },
-        },
-    }
+    let (refusal, place) = match breach {
+        Breach::Outside => (Refusal::Outside, RowPlace::Row(row)),
+        Breach::TestedTwice => (Refusal::TestedTwice, RowPlace::Row(row)),
+        Breach::TwoWriters(upper) => (Refusal::TwoWriters, RowPlace::Rows { lower: row, upper }),
+        Breach::Clash(upper) => (Refusal::Clash, RowPlace::Rows { lower: row, upper }),
+        Breach::Unavailable(variable) => (
+            Refusal::Unavailable,
+            RowPlace::Variable { row, variable },
+        ),
+    };
+    Fault { refusal, place }
 }
 
 // The first refusal of the rows, from the top.
@@ -78,10 +62,7 @@ pub fn judge(head: &Head, rows: &[Row]) -> Option<Fault<RowPlace>>
     ensures value { result ≡ verdict head.now rows.now }
     ensures right { Right head.now rows.now result }
 {
-    match first_bad(rows, &SheetRules { head: *head }) {
-        Some((row, breach)) => Some(fault_of(row, breach)),
-        None => None,
-    }
+    first_bad(rows, &SheetRules { head: *head }).map(|(row, breach)| fault_of(row, breach))
 }
 
 // The theorems of the judge: its verdict is nothing exactly where the rules hold, and each refusal names

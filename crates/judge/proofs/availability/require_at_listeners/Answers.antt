@@ -8,7 +8,7 @@ pub returns-in_err-require_at : goal.returns-in_err-require_at
 returns-in_err-require_at c =
     let p = err_from_is_err_and c.from_residual.result c.from_residual.ensures.1 in
     rw (p.1, p.2)
-    (sym (c.loop-n.invariant ∙ heard c.args.above.now c.args.s c.args.stations c.loop-n.n (Some c.in_err-require_at.field-0.0) (omega arith) c.in_err-require_at.ensures))
+    (sym (c.loop-n.invariant ∙ heard c.args.above.now c.args.s c.args.stations c.loop-n.n (Some c.in_err-require_at.field-0.0.variable) (omega arith) c.in_err-require_at.ensures))
 
 pub loop-n-preserved : goal.loop-n-preserved
 loop-n-preserved c =
