@@ -24,9 +24,7 @@ fn empty(places: &mut [Option<u32>], station: usize)
     requires { 64 * station + 64 ≤ length places.old }
     ensures { places.new ≡ emptied station 64 places.old }
 {
-    for variable in 0..64 {
-        places[64 * station + variable] = None;
-    }
+    places[64 * station..64 * station + 64].fill(None);
 }
 
 // The words as a mark has them.
@@ -35,8 +33,7 @@ pub(crate) fn first_word(words: Words) -> Option<u32>
 {
     match words {
         Words::Nothing => None,
-        Words::Single(a) => Some(a),
-        Words::Pair(a, _) => Some(a),
+        Words::Single(a) | Words::Pair(a, _) => Some(a),
     }
 }
 
@@ -44,8 +41,7 @@ pub(crate) fn second_word(words: Words) -> Option<u32>
     ensures { result ≡ second_word words }
 {
     match words {
-        Words::Nothing => None,
-        Words::Single(_) => None,
+        Words::Nothing | Words::Single(_) => None,
         Words::Pair(_, b) => Some(b),
     }
 }
@@ -79,11 +75,7 @@ impl Machine {
         match inputs {
             Inputs::Nothing => Some(Words::Nothing),
             Inputs::Single(a) => Some(Words::Single(self.word(program, a)?)),
-            Inputs::Pair(a, b) => {
-                let first = self.word(program, a)?;
-                let second = self.word(program, b)?;
-                Some(Words::Pair(first, second))
-            }
+            Inputs::Pair(a, b) => Some(Words::Pair(self.word(program, a)?, self.word(program, b)?)),
         }
     }
 
@@ -99,10 +91,7 @@ impl Machine {
         requires { cell < 16 }
         ensures { result ≡ or_first (cell_in self.now.state cell) word }
     {
-        match self.state.cells[cell as usize] {
-            None => word,
-            Some(kept) => kept,
-        }
+        self.state.cells[cell as usize].unwrap_or(word)
     }
 
     pub(crate) fn fill_cell(&mut self, cell: u32, word: u32)
@@ -123,34 +112,23 @@ impl Machine {
         requires { program < 16 }
         ensures { result ≡ is_busy self.now.state program }
     {
-        match self.unit(program).job {
-            Job::Idle => false,
-            _ => true,
-        }
+        !matches!(self.unit(program).job, Job::Idle)
     }
 
     pub(crate) fn set_job(&mut self, program: usize, job: Job)
         requires { program < 16 }
         ensures { self.new.state ≡ with_job self.old.state program job }
     {
-        let unit = self.unit(program);
-        self.state.units[program] = UnitState {
-            timer: unit.timer,
-            address: unit.address,
-            job,
-        };
+        self.state.units[program].job = job;
     }
 
     pub(crate) fn set_timer(&mut self, program: usize, timer: Option<u32>, address: u32)
         requires { program < 16 }
         ensures { self.new.state ≡ with_timer self.old.state program timer address }
     {
-        let unit = self.unit(program);
-        self.state.units[program] = UnitState {
-            timer,
-            address,
-            job: unit.job,
-        };
+        let unit = &mut self.state.units[program];
+        unit.timer = timer;
+        unit.address = address;
     }
 
     // Writes a row's mark: one more, at this tick, with the words read and the word given.

@@ -10,6 +10,16 @@ use fault::{AskedPlace, Fault, Refusal, TickPlace};
 use plant::Plant;
 use semantics::Mark;
 
+// The fault of a place that the run does not have.
+fn outside(place: AskedPlace) -> Fault<AskedPlace>
+    ensures { result ≡ record { refusal = Refusal.Outside; place = place } }
+{
+    Fault {
+        refusal: Refusal::Outside,
+        place,
+    }
+}
+
 impl Run {
     // Makes a tick. Refused, it is not counted, keeps what its earlier steps did, and stops the run; 18 and 19 touch
     // nothing.
@@ -36,10 +46,7 @@ impl Run {
         if station < self.stations() && variable < 64 {
             Ok(self.machine.state.places[(64 * station + variable) as usize])
         } else {
-            Err(Fault {
-                refusal: Refusal::Outside,
-                place: AskedPlace::Word { station, variable },
-            })
+            Err(outside(AskedPlace::Word { station, variable }))
         }
     }
 
@@ -50,10 +57,7 @@ impl Run {
         if row < 128 {
             Ok(self.machine.state.marks[row as usize])
         } else {
-            Err(Fault {
-                refusal: Refusal::Outside,
-                place: AskedPlace::Mark { row },
-            })
+            Err(outside(AskedPlace::Mark { row }))
         }
     }
 }

@@ -32,13 +32,13 @@ impl Machine {
         requires { program < 16 }
         ensures { (p : P.model.State) → outcome result (world self.new.state p) ≡ heard P.model self.old.state.line clock program variable address (world self.old.state p) }
     {
-        if let Some(message) = self.state.line {
-            if message.end == clock {
+        match self.state.line {
+            Some(message) if message.end == clock => {
                 self.store(program, variable, message.word);
-                return Ok(());
+                Ok(())
             }
+            _ => Err(fault_at(Refusal::NoMessage, program, address)),
         }
-        Err(fault_at(Refusal::NoMessage, program, address))
     }
 
     // What a unit does when the clock has come to a tick: a job that ends then is done.
@@ -47,33 +47,24 @@ impl Machine {
         ensures { (p : P.model.State) → outcome result (world self.new.state p) ≡ ended P.model (unit_in self.old.state program).job clock program (world self.old.state p) }
     {
         match self.unit(program).job {
-            Job::Idle => Ok(()),
             Job::Store {
                 end,
                 variable,
                 word,
-            } => {
-                if end == clock {
-                    self.store(program, variable, word);
-                }
+            } if end == clock => {
+                self.store(program, variable, word);
                 Ok(())
             }
-            Job::Carry { end } => {
-                if end == clock {
-                    self.set_job(program, Job::Idle);
-                }
+            Job::Carry { end } if end == clock => {
+                self.set_job(program, Job::Idle);
                 Ok(())
             }
             Job::Listen {
                 end,
                 variable,
                 address,
-            } => {
-                if end == clock {
-                    return self.hear::<P>(program, clock, variable, address);
-                }
-                Ok(())
-            }
+            } if end == clock => self.hear::<P>(program, clock, variable, address),
+            _ => Ok(()),
         }
     }
 
@@ -87,9 +78,7 @@ impl Machine {
         ensures { (programs : List (List Step)) (p : P.model.State) → outcome result (world self.new.state p) ≡ second_part P.model programs clock count (world self.old.state p) }
     {
         for program in 0..count {
-            if let Err(fault) = self.finish::<P>(program, clock) {
-                return Err(fault);
-            }
+            self.finish::<P>(program, clock)?;
         }
         Ok(())
     }
@@ -98,10 +87,8 @@ impl Machine {
     pub(crate) fn free_line<P: Plant>(&mut self, clock: u32)
         ensures { self.new.state ≡ with_line self.old.state (left P.model self.old.state.line clock) }
     {
-        if let Some(message) = self.state.line {
-            if message.end == clock {
-                self.state.line = None;
-            }
+        if self.state.line.is_some_and(|message| message.end == clock) {
+            self.state.line = None;
         }
     }
 }

@@ -4,9 +4,10 @@ ghost use Rattle.bench.specs.Runs.{programs_in, world_in, SamePrograms};
 ghost use Rattle.bench.specs.Replies.{ticks_made, replied, answered, served_into};
 
 use crate::run::Run;
-use fault::{BytesPlace, Fault, Refusal, TickPlace};
+use fault::{BytesPlace, Fault, TickPlace};
 use plant::Plant;
 use semantics::{Reply, Request};
+use sheet::too_short;
 
 // How many ticks a rehearsal made, and the refusal that ended it.
 #[derive(Clone, Copy)]
@@ -16,26 +17,21 @@ pub struct Rehearsal {
 }
 
 impl Run {
-    // Makes up to n ticks: how many, and the refusal that ended it.
-    fn ticks<P: Plant>(&mut self, plant: &mut P, n: u32) -> (u32, Option<Fault<TickPlace>>)
-        ensures rehearsal { ticks_made result.0 result.1 (world_in self.new (P.meaning plant.new)) ≡ rehearsed P.model (programs_in self.old) n (world_in self.old (P.meaning plant.old)) }
-        ensures programs { SamePrograms self.old self.new }
-    {
-        for count in 0..n {
-            if let Err(fault) = self.tick(plant) {
-                return (count, Some(fault));
-            }
-        }
-        (n, None)
-    }
-
     // A rehearsal of up to n ticks. A refusal ends it.
     pub fn rehearse<P: Plant>(&mut self, plant: &mut P, n: u32) -> Rehearsal
         ensures rehearsal { ticks_made result.count result.ended (world_in self.new (P.meaning plant.new)) ≡ rehearsed P.model (programs_in self.old) n (world_in self.old (P.meaning plant.old)) }
         ensures programs { SamePrograms self.old self.new }
     {
-        let (count, ended) = self.ticks(plant, n);
-        Rehearsal { count, ended }
+        for count in 0..n {
+            if let Err(fault) = self.tick(plant) {
+                let ended = Some(fault);
+                return Rehearsal { count, ended };
+            }
+        }
+        Rehearsal {
+            count: n,
+            ended: None,
+        }
     }
 
     // One request.
@@ -49,11 +45,8 @@ impl Run {
                 Err(fault) => Reply::Refused(fault),
             },
             Request::Rehearse(n) => {
-                let rehearsal = self.rehearse(plant, n);
-                Reply::Made {
-                    count: rehearsal.count,
-                    ended: rehearsal.ended,
-                }
+                let Rehearsal { count, ended } = self.rehearse(plant, n);
+                Reply::Made { count, ended }
             }
             Request::WordAt { station, variable } => match self.word_at(station, variable) {
                 Ok(word) => Reply::Word(word),
@@ -66,19 +59,8 @@ impl Run {
         }
     }
 
-    // A list of requests, in order, with their replies at the front of a list that has room for them.
-    fn serve_each<P: Plant>(&mut self, plant: &mut P, requests: &[Request], replies: &mut [Reply])
-        requires { length requests.now ≤ length replies.old }
-        ensures served { answered (Ok tt) replies.new (world_in self.new (P.meaning plant.new)) ≡ served_into P.model (programs_in self.old) requests.now replies.old (world_in self.old (P.meaning plant.old)) }
-        ensures programs { SamePrograms self.old self.new }
-    {
-        for i in 0..requests.len() {
-            let request = requests[i];
-            replies[i] = self.serve(plant, request);
-        }
-    }
-
-    // The same with any list. One that is too short is refused 4 with the count needed, and nothing moves.
+    // A list of requests, in order, with their replies at the front of the list handed in. One that is too short is
+    // refused 4 with the count needed, and nothing moves.
     pub fn serve_all<P: Plant>(
         &mut self,
         plant: &mut P,
@@ -89,12 +71,11 @@ impl Run {
         ensures programs { SamePrograms self.old self.new }
     {
         if replies.len() < requests.len() {
-            return Err(Fault {
-                refusal: Refusal::TooShort,
-                place: BytesPlace::Needed(requests.len() as u64),
-            });
+            return Err(too_short(requests.len() as u64));
         }
-        self.serve_each(plant, requests, replies);
+        for (i, request) in requests.iter().enumerate() {
+            replies[i] = self.serve(plant, *request);
+        }
         Ok(())
     }
 }

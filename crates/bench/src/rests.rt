@@ -8,10 +8,7 @@ use semantics::{Job, Message, UnitState};
 fn timer_rests(timer: Option<u32>) -> u32
     ensures { quiet_timer result timer ≡ true }
 {
-    match timer {
-        None => u32::MAX,
-        Some(tick) => tick.saturating_add(1),
-    }
+    timer.map_or(u32::MAX, |tick| tick.saturating_add(1))
 }
 
 fn job_rests(job: Job) -> u32
@@ -19,9 +16,7 @@ fn job_rests(job: Job) -> u32
 {
     match job {
         Job::Idle => u32::MAX,
-        Job::Store { end, .. } => end,
-        Job::Carry { end } => end,
-        Job::Listen { end, .. } => end,
+        Job::Store { end, .. } | Job::Carry { end } | Job::Listen { end, .. } => end,
     }
 }
 
@@ -34,10 +29,7 @@ fn unit_rests(unit: UnitState) -> u32
 fn line_rests(line: Option<Message>) -> u32
     ensures { quiet_line result line ≡ true }
 {
-    match line {
-        None => u32::MAX,
-        Some(message) => message.end,
-    }
+    line.map_or(u32::MAX, |message| message.end)
 }
 
 impl Machine {
@@ -46,8 +38,8 @@ impl Machine {
         ensures { Quiet result self.now.state }
     {
         let mut until = line_rests(self.state.line);
-        for program in 0..16 {
-            until = until.min(unit_rests(self.unit(program)));
+        for unit in &self.state.units {
+            until = until.min(unit_rests(*unit));
         }
         until
     }

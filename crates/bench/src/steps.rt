@@ -65,11 +65,7 @@ impl Machine {
             Relation::Equal => held == word,
             Relation::Unequal => held != word,
         };
-        if passes {
-            Ok(Some(address + 1))
-        } else {
-            Ok(Some(to))
-        }
+        Ok(Some(if passes { address + 1 } else { to }))
     }
 
     // FUTURE: the unit is next due after so many ticks, at the address named.
@@ -173,7 +169,7 @@ impl Machine {
         if self.is_busy(program) {
             return Err(fault_at(Refusal::UnitBusy, program, address));
         }
-        if let Some(_) = self.state.line {
+        if self.state.line.is_some() {
             return Err(fault_at(Refusal::LineCarrying, program, address));
         }
         self.start_send(program, row, word, duration);

@@ -38,12 +38,8 @@ impl Machine {
     {
         let clock = self.state.granted + 1;
         let count = program_count(layout.stations);
-        if let Err(fault) = self.first_part(layout, steps, plant) {
-            return Err(fault);
-        }
-        if let Err(fault) = self.second_part::<P>(clock, count) {
-            return Err(fault);
-        }
+        self.first_part(layout, steps, plant)?;
+        self.second_part::<P>(clock, count)?;
         self.free_line::<P>(clock);
         Ok(())
     }

@@ -31,12 +31,9 @@ impl Machine {
                 return Ok(());
             }
             let step = code[address as usize];
-            match self.perform(program, address, step, plant) {
-                Err(fault) => return Err(fault),
-                Ok(next) => match next {
-                    None => return Ok(()),
-                    Some(to) => address = to,
-                },
+            match self.perform(program, address, step, plant)? {
+                None => return Ok(()),
+                Some(to) => address = to,
             }
         }
         Ok(())
@@ -47,10 +44,7 @@ impl Machine {
         requires { program < 16 }
         ensures { result ≡ due_at P.model (unit_in self.now.state program).timer self.now.state.granted }
     {
-        match self.unit(program).timer {
-            None => false,
-            Some(tick) => tick == self.state.granted,
-        }
+        self.unit(program).timer == Some(self.state.granted)
     }
 
     // The turn of a program's unit: if it is due while busy it is refused 17; else its timer is spent, and it
@@ -93,9 +87,7 @@ impl Machine {
         for program in 0..program_count(layout.stations) {
             let length = layout.lengths[program].min(rest.len());
             let (code, others) = rest.split_at(length);
-            if let Err(fault) = self.turn(program, code, plant) {
-                return Err(fault);
-            }
+            self.turn(program, code, plant)?;
             rest = others;
         }
         Ok(())

@@ -1,4 +1,5 @@
 use Rattle.std.proofs.Common.{◌≡◌, ◌+◌, [], ◌∷◌, get_or, take, drop, Ok, Err, sym, refl, ap, ◌∙◌, subst, arith}
+use Rattle.std.proofs.lemmas.Result.{err_from_is_err_and}
 use Rattle.netcode.specs.Layouts.{cuts, program_count, programs_of}
 use Rattle.netcode.specs.Laws.{Lawful}
 use Rattle.netcode.proofs.Cuts.{cut}
@@ -27,8 +28,8 @@ turn-requires g c =
       ready = c.loop-program.invariant.0;
     }
 
-pub returns-in-Err : goal.returns-in-Err
-returns-in-Err g c =
+pub returns-in_err-turn : goal.returns-in_err-turn
+returns-in_err-turn g c =
     let m = g.P.Plant.model in
     let ns = c.args.layout.now.lengths in
     let count = program_count c.args.layout.now.stations in
@@ -38,8 +39,10 @@ returns-in-Err g c =
     let n = c.min-length.result in
     let h : drop i ps ≡ take n xs ∷ cuts (drop (i + 1) (take count ns)) (drop n xs) = c.loop-program.invariant.1 ∙ cut ns count i n xs (omega arith) (omega arith) c.min-length.ensures in
     let e : get_or ps i [] ≡ take n xs = head-is ps i _ _ h in
-    first_ends m ps (i + 1) count _ _ c.in-Err.fault (omega arith)
-    (turn_on m ps i _ _ _ _ (Err c.in-Err.fault) c.loop-program.invariant.2 (e ∙ sym c.split_at.ensures.front) c.in-Err.ensures)
+    let r = err_from_is_err_and c.from_residual.result c.from_residual.ensures.1 in
+    rw (r.1, r.2)
+    (first_ends m ps (i + 1) count _ _ _ (omega arith)
+    (turn_on m ps i _ _ _ _ (Err _) c.loop-program.invariant.2 (e ∙ sym c.split_at.ensures.front) c.in_err-turn.ensures))
 
 pub loop-program-preserved : goal.loop-program-preserved
 loop-program-preserved g c =
@@ -53,7 +56,7 @@ loop-program-preserved g c =
     let w : World m.State = world c.loop-program.self.state (g.P.Plant.meaning c.loop-program.plant) in
     let h : drop i ps ≡ take n xs ∷ cuts (drop (i + 1) (take count ns)) (drop n xs) = c.loop-program.invariant.1 ∙ cut ns count i n xs (omega arith) (omega arith) c.min-length.ensures in
     let e : get_or ps i [] ≡ take n xs = head-is ps i _ _ h in
-    let t = c.in_default.ensures in (
+    let t = c.in_ok-turn.ensures in (
       subst (λ (o : Outcome m.State). Ready (i + 1) (out_state o)) (sym t) (ready-turn m _ i w (omega arith) c.loop-program.invariant.0),
       tail-is ps i _ _ h ∙ ap (cuts (drop (i + 1) (take count ns))) (sym c.split_at.ensures.back),
       turn_on m ps i _ w _ _ (Ok tt) c.loop-program.invariant.2 (e ∙ sym c.split_at.ensures.front) t,

@@ -1,4 +1,5 @@
 use Rattle.std.proofs.Common.{◌≡◌, ℕ, ◌+◌, ◌*◌, ◌^◌, ◌<◌, ◌≤◌, Bool, true, false, cond, length, Some, None, Ok, Err, Option, sym, refl, ap, ◌∙◌, arith}
+use Rattle.std.proofs.lemmas.Result.{err_from_is_err_and}
 use native.Mathlib.Nat.{sub-zero}
 use Rattle.netcode.specs.Steps.{step_in}
 use Rattle.semantics.specs.declared.state.State.{State}
@@ -30,9 +31,11 @@ pub returns-then-address-end : goal.returns-then-address-end
 returns-then-address-end g c =
     sym (past-on g.P.Plant.model c.args.code.now c.args.program (length c.args.code.now + 1) c.loop.counter c.loop.address _ _ c.loop.invariant.1 (omega arith) (omega arith))
 
-pub returns-in-Err : goal.returns-in-Err
-returns-in-Err g c =
-    sym (step-on g.P.Plant.model c.args.code.now c.args.program (length c.args.code.now + 1) c.loop.counter c.loop.address _ _ c.loop.invariant.1 (omega arith) (omega arith) (Err c.in-Err.fault) _ c.in-Err.ensures)
+pub returns-in_err-perform : goal.returns-in_err-perform
+returns-in_err-perform g c =
+    let e = err_from_is_err_and c.from_residual.result c.from_residual.ensures.1 in
+    rw (e.1, e.2)
+    (sym (step-on g.P.Plant.model c.args.code.now c.args.program (length c.args.code.now + 1) c.loop.counter c.loop.address _ _ c.loop.invariant.1 (omega arith) (omega arith) (Err _) _ c.in_err-perform.ensures))
 
 pub returns-in-None : goal.returns-in-None
 returns-in-None g c =
@@ -40,7 +43,7 @@ returns-in-None g c =
     let w : World m.State = world c.loop.self.state (g.P.Plant.meaning c.loop.plant) in
     let v : World m.State = world c.perform.new.self.state (g.P.Plant.meaning c.perform.new.plant) in
     let step = step_in c.args.code.now c.loop.address in
-    let e : stepped_to (Ok None) v ≡ performed m step c.args.program c.loop.address w = ap (λ (o : Option ℕ). stepped_to (Ok o) v) (sym c.in-None.is) ∙ c.in-Ok.ensures in
+    let e : stepped_to (Ok None) v ≡ performed m step c.args.program c.loop.address w = ap (λ (o : Option ℕ). stepped_to (Ok o) v) (sym c.in-None.is) ∙ c.in_ok-perform.ensures in
     sym (step-on m c.args.code.now c.args.program (length c.args.code.now + 1) c.loop.counter c.loop.address w _ c.loop.invariant.1 (omega arith) (omega arith) (Ok None) v e)
 
 pub loop-preserved : goal.loop-preserved
@@ -49,7 +52,7 @@ loop-preserved g c =
     let w : World m.State = world c.loop.self.state (g.P.Plant.meaning c.loop.plant) in
     let v : World m.State = world c.perform.new.self.state (g.P.Plant.meaning c.perform.new.plant) in
     let step = step_in c.args.code.now c.loop.address in
-    let e : stepped_to (Ok (Some c.in-Some.to)) v ≡ performed m step c.args.program c.loop.address w = ap (λ (o : Option ℕ). stepped_to (Ok o) v) (sym c.in-Some.is) ∙ c.in-Ok.ensures in (
+    let e : stepped_to (Ok (Some c.in-Some.to)) v ≡ performed m step c.args.program c.loop.address w = ap (λ (o : Option ℕ). stepped_to (Ok o) v) (sym c.in-Some.is) ∙ c.in_ok-perform.ensures in (
       ready_on m c.args.code.now c.args.program c.loop.address c.in-Some.to w v c.requires.unit c.loop.invariant.0 step e,
       step-on m c.args.code.now c.args.program (length c.args.code.now + 1) c.loop.counter c.loop.address w _ c.loop.invariant.1 (omega arith) (omega arith) (Ok (Some c.in-Some.to)) v e,
     )

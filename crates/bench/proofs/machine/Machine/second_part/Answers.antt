@@ -1,4 +1,5 @@
 use Rattle.std.proofs.Common.{◌≡◌, ◌+◌, Ok, Err, ap, ◌∙◌, arith}
+use Rattle.std.proofs.lemmas.Result.{err_from_is_err_and}
 use Rattle.semantics.specs.Machine.{second_part}
 use Rattle.bench.specs.Shown.{world}
 use Rattle.bench.proofs.Loops.{second_none, end_on, second-ends}
@@ -7,15 +8,16 @@ use Rattle.bench.proofs.machine.Machine.second_part.Goals as goal
 pub loop-program-init : goal.loop-program-init
 loop-program-init g c ps p = second_none g.P.Plant.model ps c.args.clock _
 
-pub returns-in-Err : goal.returns-in-Err
-returns-in-Err g c ps p =
+pub returns-in_err-finish : goal.returns-in_err-finish
+returns-in_err-finish g c ps p =
     let m = g.P.Plant.model in
-    second-ends m ps c.args.clock (c.loop-program.program + 1) c.args.count _ _ c.in-Err.fault (omega arith)
-    (end_on m ps c.args.clock c.loop-program.program _ (world c.loop-program.self.state p) _ (Err c.in-Err.fault) (c.loop-program.invariant ps p) (c.in-Err.ensures p))
+    let e = err_from_is_err_and c.from_residual.result c.from_residual.ensures.1 in
+    rw (e.1, e.2) (second-ends m ps c.args.clock (c.loop-program.program + 1) c.args.count _ _ _ (omega arith)
+    (end_on m ps c.args.clock c.loop-program.program _ (world c.loop-program.self.state p) _ (Err _) (c.loop-program.invariant ps p) (c.in_err-finish.ensures p)))
 
 pub loop-program-preserved : goal.loop-program-preserved
 loop-program-preserved g c ps p =
-    end_on g.P.Plant.model ps c.args.clock c.loop-program.program _ (world c.loop-program.self.state p) _ (Ok tt) (c.loop-program.invariant ps p) (c.in_default.ensures p)
+    end_on g.P.Plant.model ps c.args.clock c.loop-program.program _ (world c.loop-program.self.state p) _ (Ok tt) (c.loop-program.invariant ps p) (c.in_ok-finish.ensures p)
 
 pub returns : goal.returns
 returns g c ps p =

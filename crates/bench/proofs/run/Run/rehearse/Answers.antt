@@ -3,7 +3,7 @@ use Rattle.netcode.specs.declared.step.Step.{Step}
 use Rattle.semantics.specs.Machine.{World, tick}
 use Rattle.bench.specs.Runs.{programs_in, world_in}
 use Rattle.bench.proofs.Rehearsals.{same_then, same-programs, none_made, tick-made, tick-refused, all_made}
-use Rattle.bench.proofs.run.Run.ticks.Goals as goal
+use Rattle.bench.proofs.run.Run.rehearse.Goals as goal
 
 pub loop-count-init : goal.loop-count-init
 loop-count-init g c = (record { layout = refl; steps = refl }, none_made g.P.Plant.model (programs_in c.args.self.now) c.args.n _)

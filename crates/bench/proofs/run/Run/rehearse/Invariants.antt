@@ -2,7 +2,7 @@ use Rattle.std.proofs.Common.{◌≡◌, ◌-◌}
 use Rattle.semantics.specs.Requests.{rehearsed}
 use Rattle.bench.specs.Runs.{programs_in, world_in, SamePrograms}
 use Rattle.bench.proofs.Rehearsals.{after}
-use Rattle.bench.proofs.run.Run.ticks.Given as goal
+use Rattle.bench.proofs.run.Run.rehearse.Given as goal
 
 abbrev pub invariant-loop-count : goal.invariant-loop-count
 invariant-loop-count g l =

@@ -3,7 +3,7 @@ use lib.Seq.{paste}
 use Rattle.semantics.specs.Requests.{served_all}
 use Rattle.bench.specs.Runs.{programs_in, world_in, SamePrograms}
 use Rattle.bench.proofs.Lists.{Left}
-use Rattle.bench.proofs.run.Run.serve_each.Given as goal
+use Rattle.bench.proofs.run.Run.serve_all.Given as goal
 
 abbrev pub invariant-loop-i : goal.invariant-loop-i
 invariant-loop-i g l =
