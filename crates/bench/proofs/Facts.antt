@@ -14,7 +14,7 @@ use Rattle.bench.specs.declared.run.Run.{Run}
 use Rattle.bench.proofs.Lasting.{length-programs}
 
 pub run-lasts : (r : Run) → Lasts r.machine.state
-run-lasts r = record { units = r.units; few = r.few; counted = r.counted }
+run-lasts r = record { units = r.machine.units; few = r.machine.few; counted = r.counted }
 
 -- Programs without a fault keep the rules.
 unbroken : (ps : List (List Step)) (o : Option (Fault StepPlace)) → is_some o ≡ false → Verdict ps o → LawfulBefore ps (length ps)

@@ -5,7 +5,7 @@ ghost use Rattle.semantics.specs.Reading.{or_first};
 ghost use Rattle.semantics.specs.Machine.{word_in, cell_in, mark_in, unit_in, with_word, with_cell, with_job, with_timer, with_cleared, emptied, marked, is_idle, is_busy, input_words, first_word, second_word};
 
 use crate::machine::Machine;
-use netcode::station_of;
+use crate::position::Program;
 use plant::Words;
 use semantics::{Job, Mark, UnitState};
 use sheet::Inputs;
@@ -48,29 +48,24 @@ pub(crate) fn second_word(words: Words) -> Option<u32>
 
 impl Machine {
     // The word that the station of a program has in a variable.
-    pub(crate) fn word(&self, program: usize, variable: u32) -> Option<u32>
-        requires { (program < 16) × (variable < 64) }
-        ensures { result ≡ word_in self.now.state (station_of program) variable }
+    pub(crate) fn word(&self, program: Program, variable: u32) -> Option<u32>
+        requires { variable < 64 }
+        ensures { result ≡ word_in self.now.state (station_of program.number) variable }
     {
-        self.state.places[64 * station_of(program) + variable as usize]
+        self.state.places[program.place(variable)]
     }
 
     // Puts a word in a variable.
-    pub(crate) fn put_word(&mut self, program: usize, variable: u32, word: u32)
-        requires { program < 16 }
-        ensures { self.new.state ≡ with_word self.old.state (station_of program) variable (Some word) }
+    pub(crate) fn put_word(&mut self, program: Program, variable: u32, word: u32)
+        ensures { self.new.state ≡ with_word self.old.state (station_of program.number) variable (Some word) }
     {
-        put(
-            &mut self.state.places,
-            64 * station_of(program) + variable as usize,
-            word,
-        );
+        put(&mut self.state.places, program.place(variable), word);
     }
 
     // The input words of a call, or nothing where a place is empty.
-    pub(crate) fn input_words(&self, program: usize, inputs: Inputs) -> Option<Words>
-        requires { (program < 16) × (InputsWithin inputs) }
-        ensures { result ≡ input_words inputs (word_in self.now.state (station_of program)) }
+    pub(crate) fn input_words(&self, program: Program, inputs: Inputs) -> Option<Words>
+        requires { InputsWithin inputs }
+        ensures { result ≡ input_words inputs (word_in self.now.state (station_of program.number)) }
     {
         match inputs {
             Inputs::Nothing => Some(Words::Nothing),
@@ -80,11 +75,10 @@ impl Machine {
     }
 
     // Empties the places of a program's station.
-    pub(crate) fn clear(&mut self, program: usize)
-        requires { program < 16 }
-        ensures { self.new.state ≡ with_cleared self.old.state (station_of program) }
+    pub(crate) fn clear(&mut self, program: Program)
+        ensures { self.new.state ≡ with_cleared self.old.state (station_of program.number) }
     {
-        empty(&mut self.state.places, station_of(program));
+        empty(&mut self.state.places, program.station());
     }
 
     pub(crate) fn cell_or(&self, cell: u32, word: u32) -> u32
@@ -101,32 +95,28 @@ impl Machine {
         self.state.cells[cell as usize] = Some(word);
     }
 
-    pub(crate) fn unit(&self, program: usize) -> UnitState
-        requires { program < 16 }
-        ensures { result ≡ unit_in self.now.state program }
+    pub(crate) fn unit(&self, program: Program) -> UnitState
+        ensures { result ≡ unit_in self.now.state program.number }
     {
-        self.state.units[program]
+        self.state.units[program.number]
     }
 
-    pub(crate) fn is_busy(&self, program: usize) -> bool
-        requires { program < 16 }
-        ensures { result ≡ is_busy self.now.state program }
+    pub(crate) fn is_busy(&self, program: Program) -> bool
+        ensures { result ≡ is_busy self.now.state program.number }
     {
         !matches!(self.unit(program).job, Job::Idle)
     }
 
-    pub(crate) fn set_job(&mut self, program: usize, job: Job)
-        requires { program < 16 }
-        ensures { self.new.state ≡ with_job self.old.state program job }
+    pub(crate) fn set_job(&mut self, program: Program, job: Job)
+        ensures { self.new.state ≡ with_job self.old.state program.number job }
     {
-        self.state.units[program].job = job;
+        self.state.units[program.number].job = job;
     }
 
-    pub(crate) fn set_timer(&mut self, program: usize, timer: Option<u32>, address: u32)
-        requires { program < 16 }
-        ensures { self.new.state ≡ with_timer self.old.state program timer address }
+    pub(crate) fn set_timer(&mut self, program: Program, timer: Option<u32>, address: u32)
+        ensures { self.new.state ≡ with_timer self.old.state program.number timer address }
     {
-        let unit = &mut self.state.units[program];
+        let unit = &mut self.state.units[program.number];
         unit.timer = timer;
         unit.address = address;
     }

@@ -6,16 +6,15 @@ ghost use Rattle.semantics.specs.Machine.{unit_in, with_word, with_job, with_lin
 ghost use Rattle.bench.specs.Shown.{world, outcome};
 
 use crate::machine::Machine;
-use crate::steps::fault_at;
+use crate::position::Program;
 use fault::{Fault, Refusal, TickPlace};
 use plant::Plant;
 use semantics::Job;
 
 impl Machine {
     // A unit stores a word, and is free.
-    fn store(&mut self, program: usize, variable: u32, word: u32)
-        requires { program < 16 }
-        ensures { self.new.state ≡ with_job (with_word self.old.state (station_of program) variable (Some word)) program Idle }
+    fn store(&mut self, program: Program, variable: u32, word: u32)
+        ensures { self.new.state ≡ with_job (with_word self.old.state (station_of program.number) variable (Some word)) program.number Idle }
     {
         self.put_word(program, variable, word);
         self.set_job(program, Job::Idle);
@@ -24,27 +23,25 @@ impl Machine {
     // A listener stores the word of the message that ends with it, or is refused 15 at its own step.
     fn hear<P: Plant>(
         &mut self,
-        program: usize,
+        program: Program,
         clock: u32,
         variable: u32,
         address: u32,
     ) -> Result<(), Fault<TickPlace>>
-        requires { program < 16 }
-        ensures { (p : P.model.State) → outcome result (world self.new.state p) ≡ heard P.model self.old.state.line clock program variable address (world self.old.state p) }
+        ensures { (p : P.model.State) → outcome result (world self.new.state p) ≡ heard P.model self.old.state.line clock program.number variable address (world self.old.state p) }
     {
         match self.state.line {
             Some(message) if message.end == clock => {
                 self.store(program, variable, message.word);
                 Ok(())
             }
-            _ => Err(fault_at(Refusal::NoMessage, program, address)),
+            _ => Err(program.fault(Refusal::NoMessage, address)),
         }
     }
 
     // What a unit does when the clock has come to a tick: a job that ends then is done.
-    fn finish<P: Plant>(&mut self, program: usize, clock: u32) -> Result<(), Fault<TickPlace>>
-        requires { program < 16 }
-        ensures { (p : P.model.State) → outcome result (world self.new.state p) ≡ ended P.model (unit_in self.old.state program).job clock program (world self.old.state p) }
+    fn finish<P: Plant>(&mut self, program: Program, clock: u32) -> Result<(), Fault<TickPlace>>
+        ensures { (p : P.model.State) → outcome result (world self.new.state p) ≡ ended P.model (unit_in self.old.state program.number).job clock program.number (world self.old.state p) }
     {
         match self.unit(program).job {
             Job::Store {
@@ -77,8 +74,8 @@ impl Machine {
         requires { count ≤ 16 }
         ensures { (programs : List (List Step)) (p : P.model.State) → outcome result (world self.new.state p) ≡ second_part P.model programs clock count (world self.old.state p) }
     {
-        for program in 0..count {
-            self.finish::<P>(program, clock)?;
+        for number in 0..count {
+            self.finish::<P>(Program { number }, clock)?;
         }
         Ok(())
     }

@@ -1,11 +1,13 @@
 #![tactic(auto)]
 
 mod access;
+mod call;
 mod calls;
 mod ends;
 mod machine;
 mod making;
 mod perform;
+mod position;
 mod requests;
 mod rests;
 mod run;

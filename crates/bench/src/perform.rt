@@ -1,8 +1,10 @@
-ghost use Rattle.std.specs.Prelude.{◌≡◌, ℕ, ◌^◌, ◌<◌, ◌≤◌};
-ghost use Rattle.semantics.specs.Machine.{mark_in, limit, performed};
-ghost use Rattle.bench.specs.Shown.{world, stepped_to, Fits};
+ghost use Rattle.std.specs.Prelude.{◌≡◌};
+ghost use Rattle.semantics.specs.Machine.{performed};
+ghost use Rattle.bench.specs.Shown.{world, stepped_to, Fits, Room};
 
+use crate::call::Call;
 use crate::machine::Machine;
+use crate::position::Position;
 use fault::{Fault, TickPlace};
 use netcode::Step;
 use plant::Plant;
@@ -11,16 +13,13 @@ impl Machine {
     // Performs a step, and answers the next address, or nothing at HALT.
     pub(crate) fn perform<P: Plant>(
         &mut self,
-        program: usize,
-        address: u32,
+        at: Position,
         step: Step,
         plant: &mut P,
     ) -> Result<Option<u32>, Fault<TickPlace>>
-        requires unit { (program < 16) × (address < 2 ^ 31) }
         requires fields { Fits step }
-        requires room { (row : ℕ) → (mark_in self.old.state row).count < 2 ^ 31 }
-        requires few { self.old.state.granted ≤ limit }
-        ensures { stepped_to result (world self.new.state (P.meaning plant.new)) ≡ performed P.model step program address (world self.old.state (P.meaning plant.old)) }
+        requires room { Room self.old.state at.program.number }
+        ensures { stepped_to result (world self.new.state (P.meaning plant.new)) ≡ performed P.model step at.program.number at.address (world self.old.state (P.meaning plant.old)) }
     {
         match step {
             Step::Test {
@@ -28,10 +27,10 @@ impl Machine {
                 relation,
                 word,
                 address: to,
-            } => self.test::<P>(program, address, variable, relation, word, to),
+            } => self.test::<P>(at, variable, relation, word, to),
             Step::Future { ticks, address: to } => {
-                self.future(program, ticks, to);
-                Ok(Some(address + 1))
+                self.future(at.program, ticks, to);
+                Ok(Some(at.next()))
             }
             Step::Halt => Ok(None),
             Step::Call {
@@ -40,30 +39,38 @@ impl Machine {
                 inputs,
                 output,
                 duration,
-            } => self.call(program, address, row, work, inputs, output, duration, plant),
+            } => self.call(
+                at,
+                Call {
+                    row,
+                    work,
+                    inputs,
+                    output,
+                    duration,
+                },
+                plant,
+            ),
             Step::Send {
                 row,
                 variable,
                 duration,
-            } => self.send::<P>(program, address, row, variable, duration),
-            Step::Receive { variable, duration } => {
-                self.receive::<P>(program, address, variable, duration)
-            }
+            } => self.send::<P>(at, row, variable, duration),
+            Step::Receive { variable, duration } => { self.receive::<P>(at, variable, duration) }
             Step::Keep { variable, cell } => {
-                self.keep::<P>(program, variable, cell);
-                Ok(Some(address + 1))
+                self.keep::<P>(at.program, variable, cell);
+                Ok(Some(at.next()))
             }
             Step::Clear => {
-                self.clear(program);
-                Ok(Some(address + 1))
+                self.clear(at.program);
+                Ok(Some(at.next()))
             }
             Step::Give {
                 cell,
                 variable,
                 word,
             } => {
-                self.give(program, cell, variable, word);
-                Ok(Some(address + 1))
+                self.give(at.program, cell, variable, word);
+                Ok(Some(at.next()))
             }
         }
     }

@@ -3,7 +3,7 @@ ghost use Rattle.netcode.specs.Layouts.{program_count, programs_of};
 ghost use Rattle.netcode.specs.Laws.{LawfulBefore};
 ghost use Rattle.semantics.specs.Machine.{limit, of_the_run, parts, tick};
 ghost use Rattle.bench.specs.Quiet.{Quiet};
-ghost use Rattle.bench.specs.Shown.{world, outcome, Ready, Lasts};
+ghost use Rattle.bench.specs.Shown.{world, outcome, Room, Lasts};
 
 use crate::machine::Machine;
 use fault::{Fault, Refusal, TickPlace};
@@ -33,7 +33,7 @@ impl Machine {
     ) -> Result<(), Fault<TickPlace>>
         requires lawful { LawfulBefore (programs_of layout.now steps.now) (program_count layout.now.stations) }
         requires shape { length layout.now.lengths ≡ 16 }
-        requires ready { Ready 0 self.old.state }
+        requires room { Room self.old.state 0 }
         ensures { outcome result (world self.new.state (P.meaning plant.new)) ≡ parts P.model (programs_of layout.now steps.now) (world self.old.state (P.meaning plant.old)) }
     {
         let clock = self.state.granted + 1;

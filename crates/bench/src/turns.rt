@@ -2,10 +2,10 @@ ghost use Rattle.std.specs.Prelude.{◌≡◌, ℕ, ◌+◌, ◌*◌, ◌^◌, �
 ghost use Rattle.netcode.specs.Layouts.{program_count, programs_of};
 ghost use Rattle.netcode.specs.Laws.{Lawful, LawfulBefore};
 ghost use Rattle.semantics.specs.Machine.{unit_in, steps, due_at, turn, first_part};
-ghost use Rattle.bench.specs.Shown.{world, outcome, Ready};
+ghost use Rattle.bench.specs.Shown.{world, outcome, Room};
 
 use crate::machine::Machine;
-use crate::steps::fault_at;
+use crate::position::{Position, Program};
 use fault::{Fault, Refusal, TickPlace};
 use netcode::{Layout, Step, program_count};
 use plant::Plant;
@@ -14,15 +14,14 @@ impl Machine {
     // Performs steps from an address up to HALT. An address outside the program halts.
     fn run<P: Plant>(
         &mut self,
-        program: usize,
+        program: Program,
         code: &[Step],
         start: u32,
         plant: &mut P,
     ) -> Result<(), Fault<TickPlace>>
-        requires unit { program < 16 }
         requires lawful { Lawful code.now }
-        requires ready { Ready program self.old.state }
-        ensures { outcome result (world self.new.state (P.meaning plant.new)) ≡ steps P.model (length code.now + 1) code.now program start (world self.old.state (P.meaning plant.old)) }
+        requires room { Room self.old.state program.number }
+        ensures { outcome result (world self.new.state (P.meaning plant.new)) ≡ steps P.model (length code.now + 1) code.now program.number start (world self.old.state (P.meaning plant.old)) }
     {
         let end = code.len() as u32;
         let mut address = start;
@@ -31,7 +30,7 @@ impl Machine {
                 return Ok(());
             }
             let step = code[address as usize];
-            match self.perform(program, address, step, plant)? {
+            match self.perform(Position { program, address }, step, plant)? {
                 None => return Ok(()),
                 Some(to) => address = to,
             }
@@ -40,9 +39,8 @@ impl Machine {
     }
 
     // Whether the unit of a program is due.
-    fn is_due<P: Plant>(&self, program: usize) -> bool
-        requires { program < 16 }
-        ensures { result ≡ due_at P.model (unit_in self.now.state program).timer self.now.state.granted }
+    fn is_due<P: Plant>(&self, program: Program) -> bool
+        ensures { result ≡ due_at P.model (unit_in self.now.state program.number).timer self.now.state.granted }
     {
         self.unit(program).timer == Some(self.state.granted)
     }
@@ -51,21 +49,20 @@ impl Machine {
     // performs steps.
     fn turn<P: Plant>(
         &mut self,
-        program: usize,
+        program: Program,
         code: &[Step],
         plant: &mut P,
     ) -> Result<(), Fault<TickPlace>>
-        requires unit { program < 16 }
         requires lawful { Lawful code.now }
-        requires ready { Ready program self.old.state }
-        ensures { outcome result (world self.new.state (P.meaning plant.new)) ≡ turn P.model code.now program (world self.old.state (P.meaning plant.old)) }
+        requires room { Room self.old.state program.number }
+        ensures { outcome result (world self.new.state (P.meaning plant.new)) ≡ turn P.model code.now program.number (world self.old.state (P.meaning plant.old)) }
     {
         if !self.is_due::<P>(program) {
             return Ok(());
         }
         let address = self.unit(program).address;
         if self.is_busy(program) {
-            return Err(fault_at(Refusal::UnitBusy, program, address));
+            return Err(program.fault(Refusal::UnitBusy, address));
         }
         self.set_timer(program, None, address);
         self.run(program, code, address, plant)
@@ -80,14 +77,14 @@ impl Machine {
         plant: &mut P,
     ) -> Result<(), Fault<TickPlace>>
         requires lawful { LawfulBefore (programs_of layout.now steps.now) (program_count layout.now.stations) }
-        requires ready { Ready 0 self.old.state }
+        requires room { Room self.old.state 0 }
         ensures { outcome result (world self.new.state (P.meaning plant.new)) ≡ first_part P.model (programs_of layout.now steps.now) (program_count layout.now.stations) (world self.old.state (P.meaning plant.old)) }
     {
         let mut rest = steps;
-        for program in 0..program_count(layout.stations) {
-            let length = layout.lengths[program].min(rest.len());
+        for number in 0..program_count(layout.stations) {
+            let length = layout.lengths[number].min(rest.len());
             let (code, others) = rest.split_at(length);
-            self.turn(program, code, plant)?;
+            self.turn(Program { number }, code, plant)?;
             rest = others;
         }
         Ok(())

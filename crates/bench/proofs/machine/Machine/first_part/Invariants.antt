@@ -4,9 +4,9 @@ use Rattle.semantics.specs.Machine.{Outcome, first_part}
 use Rattle.bench.specs.Shown.{world, Ready}
 use Rattle.bench.proofs.machine.Machine.first_part.Given as goal
 
-abbrev pub invariant-loop-program : goal.invariant-loop-program
-invariant-loop-program g l =
-    Ready l.program l.self.state
-    × (drop l.program (programs_of l.layout l.steps) ≡ cuts (drop l.program (take (program_count l.layout.stations) l.layout.lengths)) l.rest)
+abbrev pub invariant-loop-number : goal.invariant-loop-number
+invariant-loop-number g l =
+    Ready l.number l.self.state
+    × (drop l.number (programs_of l.layout l.steps) ≡ cuts (drop l.number (take (program_count l.layout.stations) l.layout.lengths)) l.rest)
     × (Outcome.done (world l.self.state (g.P.Plant.meaning l.plant))
-    ≡ first_part g.P.Plant.model (programs_of l.layout l.steps) l.program (world l.initial.self.state (g.P.Plant.meaning l.initial.plant)))
+    ≡ first_part g.P.Plant.model (programs_of l.layout l.steps) l.number (world l.initial.self.state (g.P.Plant.meaning l.initial.plant)))

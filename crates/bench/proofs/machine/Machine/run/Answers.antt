@@ -1,41 +1,31 @@
-use Rattle.std.proofs.Common.{◌≡◌, ℕ, ◌+◌, ◌*◌, ◌^◌, ◌<◌, ◌≤◌, Bool, true, false, cond, length, Some, None, Ok, Err, Option, sym, refl, ap, ◌∙◌, arith}
+use Rattle.std.proofs.Common.{◌≡◌, ℕ, ◌+◌, length, Some, None, Ok, Err, Option, sym, refl, ap, ◌∙◌, arith}
 use Rattle.std.proofs.lemmas.Result.{err_from_is_err_and}
 use native.Mathlib.Nat.{sub-zero}
 use Rattle.netcode.specs.Steps.{step_in}
-use Rattle.semantics.specs.declared.state.State.{State}
-use Rattle.semantics.specs.Machine.{World, mark_in, is_busy, performed}
-use Rattle.bench.specs.Shown.{world, stepped_to, Ready}
+use Rattle.semantics.specs.Machine.{World, performed}
+use Rattle.bench.specs.Shown.{world, stepped_to}
 use Rattle.bench.proofs.Kept.{fits-within}
 use Rattle.bench.proofs.Loops.{step-on, past-on, no_more, ready_on}
 use Rattle.bench.proofs.machine.Machine.run.Goals as goal
 
-few-counts : (program : ℕ) (s : State) → program < 16 → Ready program s → (row : ℕ) → (mark_in s row).count < 2 ^ 31
-few-counts program s unit ready row = go (is_busy s program) (ready.room row)
-  where
-    go : (b : Bool) → (mark_in s row).count ≤ 16 * s.granted + program + cond b 1 0 → (mark_in s row).count < 2 ^ 31
-    go true h = omega (arith, h, ready.few)
-    go false h = omega (arith, h, ready.few)
-
 pub loop-init : goal.loop-init
-loop-init g c = (c.requires.ready, rw sub-zero refl)
+loop-init g c = (record { units = c.args.self.now.units; few = c.args.self.now.few; room = c.requires.room }, rw sub-zero refl)
 
 pub perform-requires : goal.perform-requires
 perform-requires g c = record {
-  unit = (c.requires.unit, omega (arith, c.requires.lawful.few));
   fields = fits-within (length c.args.code.now) c.loop.address _ (c.requires.lawful.steps c.loop.address (omega arith));
-  room = few-counts c.args.program c.loop.self.state c.requires.unit c.loop.invariant.0;
-  few = c.loop.invariant.0.few;
+  room = c.loop.invariant.0.room;
 }
 
 pub returns-then-address-end : goal.returns-then-address-end
 returns-then-address-end g c =
-    sym (past-on g.P.Plant.model c.args.code.now c.args.program (length c.args.code.now + 1) c.loop.counter c.loop.address _ _ c.loop.invariant.1 (omega arith) (omega arith))
+    sym (past-on g.P.Plant.model c.args.code.now c.args.program.number (length c.args.code.now + 1) c.loop.counter c.loop.address _ _ c.loop.invariant.1 (omega arith) (omega arith))
 
 pub returns-in_err-perform : goal.returns-in_err-perform
 returns-in_err-perform g c =
     let e = err_from_is_err_and c.from_residual.result c.from_residual.ensures.1 in
     rw (e.1, e.2)
-    (sym (step-on g.P.Plant.model c.args.code.now c.args.program (length c.args.code.now + 1) c.loop.counter c.loop.address _ _ c.loop.invariant.1 (omega arith) (omega arith) (Err _) _ c.in_err-perform.ensures))
+    (sym (step-on g.P.Plant.model c.args.code.now c.args.program.number (length c.args.code.now + 1) c.loop.counter c.loop.address _ _ c.loop.invariant.1 (omega arith) (omega arith) (Err _) _ c.in_err-perform.ensures))
 
 pub returns-in-None : goal.returns-in-None
 returns-in-None g c =
@@ -43,8 +33,8 @@ returns-in-None g c =
     let w : World m.State = world c.loop.self.state (g.P.Plant.meaning c.loop.plant) in
     let v : World m.State = world c.perform.new.self.state (g.P.Plant.meaning c.perform.new.plant) in
     let step = step_in c.args.code.now c.loop.address in
-    let e : stepped_to (Ok None) v ≡ performed m step c.args.program c.loop.address w = ap (λ (o : Option ℕ). stepped_to (Ok o) v) (sym c.in-None.is) ∙ c.in_ok-perform.ensures in
-    sym (step-on m c.args.code.now c.args.program (length c.args.code.now + 1) c.loop.counter c.loop.address w _ c.loop.invariant.1 (omega arith) (omega arith) (Ok None) v e)
+    let e : stepped_to (Ok None) v ≡ performed m step c.args.program.number c.loop.address w = ap (λ (o : Option ℕ). stepped_to (Ok o) v) (sym c.in-None.is) ∙ c.in_ok-perform.ensures in
+    sym (step-on m c.args.code.now c.args.program.number (length c.args.code.now + 1) c.loop.counter c.loop.address w _ c.loop.invariant.1 (omega arith) (omega arith) (Ok None) v e)
 
 pub loop-preserved : goal.loop-preserved
 loop-preserved g c =
@@ -52,11 +42,11 @@ loop-preserved g c =
     let w : World m.State = world c.loop.self.state (g.P.Plant.meaning c.loop.plant) in
     let v : World m.State = world c.perform.new.self.state (g.P.Plant.meaning c.perform.new.plant) in
     let step = step_in c.args.code.now c.loop.address in
-    let e : stepped_to (Ok (Some c.in-Some.to)) v ≡ performed m step c.args.program c.loop.address w = ap (λ (o : Option ℕ). stepped_to (Ok o) v) (sym c.in-Some.is) ∙ c.in_ok-perform.ensures in (
-      ready_on m c.args.code.now c.args.program c.loop.address c.in-Some.to w v c.requires.unit c.loop.invariant.0 step e,
-      step-on m c.args.code.now c.args.program (length c.args.code.now + 1) c.loop.counter c.loop.address w _ c.loop.invariant.1 (omega arith) (omega arith) (Ok (Some c.in-Some.to)) v e,
+    let e : stepped_to (Ok (Some c.in-Some.to)) v ≡ performed m step c.args.program.number c.loop.address w = ap (λ (o : Option ℕ). stepped_to (Ok o) v) (sym c.in-Some.is) ∙ c.in_ok-perform.ensures in (
+      ready_on m c.args.code.now c.args.program.number c.loop.address c.in-Some.to w v c.args.program.known c.loop.invariant.0 step e,
+      step-on m c.args.code.now c.args.program.number (length c.args.code.now + 1) c.loop.counter c.loop.address w _ c.loop.invariant.1 (omega arith) (omega arith) (Ok (Some c.in-Some.to)) v e,
     )
 
 pub returns : goal.returns
 returns g c =
-    sym (no_more g.P.Plant.model c.args.code.now c.args.program (length c.args.code.now + 1) c.loop.counter c.loop.address _ _ c.loop.invariant.1 (omega arith))
+    sym (no_more g.P.Plant.model c.args.code.now c.args.program.number (length c.args.code.now + 1) c.loop.counter c.loop.address _ _ c.loop.invariant.1 (omega arith))

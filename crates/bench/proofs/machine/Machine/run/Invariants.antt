@@ -5,6 +5,6 @@ use Rattle.bench.proofs.machine.Machine.run.Given as goal
 
 abbrev pub invariant-loop : goal.invariant-loop
 invariant-loop g l =
-    Ready l.program l.self.state
-    × (steps g.P.Plant.model (length l.code + 1) l.code l.program l.start (world l.initial.self.state (g.P.Plant.meaning l.initial.plant))
-    ≡ steps g.P.Plant.model (length l.code + 1 - l.counter) l.code l.program l.address (world l.self.state (g.P.Plant.meaning l.plant)))
+    Ready l.program.number l.self.state
+    × (steps g.P.Plant.model (length l.code + 1) l.code l.program.number l.start (world l.initial.self.state (g.P.Plant.meaning l.initial.plant))
+    ≡ steps g.P.Plant.model (length l.code + 1 - l.counter) l.code l.program.number l.address (world l.self.state (g.P.Plant.meaning l.plant)))

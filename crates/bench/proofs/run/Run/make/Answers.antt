@@ -14,4 +14,4 @@ invariant_of-result c =
     subst (λ (n : ℕ). Quiet n c.new_machine.result.state) (sym c.new_machine.ensures.quiet) (quiet_none c.new_machine.result.state) in
     let none : is_some (first_broken 0 (programs_of c.args.layout (vec_items c.args.steps))) ≡ false = search rules in
     let shape : length c.args.layout.lengths ≡ 16 = c.first_length.ensures in
-    record { lawful = none; shape = shape; units = k.units; few = k.few; counted = k.counted; calm = q.units; line = q.line }
+    record { lawful = none; shape = shape; counted = k.counted; calm = q.units; line = q.line }

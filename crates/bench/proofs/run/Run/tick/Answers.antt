@@ -23,4 +23,4 @@ invariant_of-self g c =
     let k : Lasts c.tick.new.self.state =
     lasts_after g.P.Plant.model (programs_of run.layout c.as_slice.result.now) (world run.machine.state (g.P.Plant.meaning c.args.plant.now))
     (world c.tick.new.self.state (g.P.Plant.meaning c.tick.new.plant)) c.tick.result (programs-few run.layout c.as_slice.result.now run.shape) (run-lasts run) c.tick.ensures.outcome in
-    record { lawful = run.lawful; shape = run.shape; units = k.units; few = k.few; counted = k.counted; calm = c.tick.ensures.quiet.units; line = c.tick.ensures.quiet.line }
+    record { lawful = run.lawful; shape = run.shape; counted = k.counted; calm = c.tick.ensures.quiet.units; line = c.tick.ensures.quiet.line }
