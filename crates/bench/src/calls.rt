@@ -5,6 +5,7 @@ ghost use Rattle.semantics.specs.Requests.{word_reply, mark_at_reply};
 ghost use Rattle.bench.specs.Shown.{outcome};
 ghost use Rattle.bench.specs.Runs.{programs_in, world_in, SamePrograms, word_answer, mark_answer};
 
+use crate::code::Code;
 use crate::run::Run;
 use fault::{AskedPlace, Fault, Refusal, TickPlace};
 use plant::Plant;
@@ -27,8 +28,11 @@ impl Run {
         ensures outcome { outcome result (world_in self.new (P.meaning plant.new)) ≡ tick P.model (programs_in self.old) (world_in self.old (P.meaning plant.old)) }
         ensures programs { SamePrograms self.old self.new }
     {
-        self.machine
-            .tick(&self.layout, self.steps.as_slice(), plant)
+        let code = Code {
+            layout: &self.layout,
+            steps: self.steps.as_slice(),
+        };
+        self.machine.tick(code, plant)
     }
 
     // How many stations the run has.

@@ -3,6 +3,7 @@
 mod access;
 mod call;
 mod calls;
+mod code;
 mod ends;
 mod machine;
 mod making;

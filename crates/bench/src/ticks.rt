@@ -1,13 +1,13 @@
 ghost use Rattle.std.specs.Prelude.{◌≡◌, ℕ, ◌+◌, ◌*◌, ◌<◌, ◌≤◌, false, length};
-ghost use Rattle.netcode.specs.Layouts.{program_count, programs_of};
-ghost use Rattle.netcode.specs.Laws.{LawfulBefore};
+ghost use Rattle.netcode.specs.Layouts.{programs_of};
 ghost use Rattle.semantics.specs.Machine.{limit, of_the_run, parts, tick};
 ghost use Rattle.bench.specs.Quiet.{Quiet};
 ghost use Rattle.bench.specs.Shown.{world, outcome, Room, Lasts};
 
+use crate::code::Code;
 use crate::machine::Machine;
 use fault::{Fault, Refusal, TickPlace};
-use netcode::{Layout, Step, program_count};
+use netcode::program_count;
 use plant::Plant;
 
 // Most ticks that a run grants.
@@ -25,20 +25,13 @@ fn of_the_run(refusal: Refusal) -> Fault<TickPlace>
 
 impl Machine {
     // Both parts of a tick. The clock is one tick on in the second.
-    fn parts<P: Plant>(
-        &mut self,
-        layout: &Layout,
-        steps: &[Step],
-        plant: &mut P,
-    ) -> Result<(), Fault<TickPlace>>
-        requires lawful { LawfulBefore (programs_of layout.now steps.now) (program_count layout.now.stations) }
-        requires shape { length layout.now.lengths ≡ 16 }
-        requires room { Room self.old.state 0 }
-        ensures { outcome result (world self.new.state (P.meaning plant.new)) ≡ parts P.model (programs_of layout.now steps.now) (world self.old.state (P.meaning plant.old)) }
+    fn parts<P: Plant>(&mut self, code: Code<'_>, plant: &mut P) -> Result<(), Fault<TickPlace>>
+        requires { Room self.old.state 0 }
+        ensures { outcome result (world self.new.state (P.meaning plant.new)) ≡ parts P.model (programs_of code.entry.layout.now code.entry.steps.now) (world self.old.state (P.meaning plant.old)) }
     {
         let clock = self.state.granted + 1;
-        let count = program_count(layout.stations);
-        self.first_part(layout, steps, plant)?;
+        let count = program_count(code.layout.stations);
+        self.first_part(code, plant)?;
         self.second_part::<P>(clock, count)?;
         self.free_line::<P>(clock);
         Ok(())
@@ -47,16 +40,13 @@ impl Machine {
     // A tick tries 19, 18, then the rest. Where all rest, only the clock moves. A refused one is not counted, and stops the run.
     pub(crate) fn tick<P: Plant>(
         &mut self,
-        layout: &Layout,
-        steps: &[Step],
+        code: Code<'_>,
         plant: &mut P,
     ) -> Result<(), Fault<TickPlace>>
-        requires lawful { LawfulBefore (programs_of layout.now steps.now) (program_count layout.now.stations) }
-        requires shape { length layout.now.lengths ≡ 16 }
         requires lasts { Lasts self.old.state }
         requires quiet { Quiet self.old.quiet self.old.state }
         ensures quiet { Quiet self.new.quiet self.new.state }
-        ensures outcome { outcome result (world self.new.state (P.meaning plant.new)) ≡ tick P.model (programs_of layout.now steps.now) (world self.old.state (P.meaning plant.old)) }
+        ensures outcome { outcome result (world self.new.state (P.meaning plant.new)) ≡ tick P.model (programs_of code.entry.layout.now code.entry.steps.now) (world self.old.state (P.meaning plant.old)) }
     {
         if self.state.stopped {
             return Err(of_the_run(Refusal::Stopped));
@@ -69,7 +59,7 @@ impl Machine {
             self.state.granted = granted + 1;
             return Ok(());
         }
-        match self.parts(layout, steps, plant) {
+        match self.parts(code, plant) {
             Err(fault) => {
                 self.state.stopped = true;
                 self.quiet = 0;

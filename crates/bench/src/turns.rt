@@ -1,13 +1,14 @@
 ghost use Rattle.std.specs.Prelude.{◌≡◌, ℕ, ◌+◌, ◌*◌, ◌^◌, ◌<◌, ◌≤◌, length};
 ghost use Rattle.netcode.specs.Layouts.{program_count, programs_of};
-ghost use Rattle.netcode.specs.Laws.{Lawful, LawfulBefore};
+ghost use Rattle.netcode.specs.Laws.{Lawful};
 ghost use Rattle.semantics.specs.Machine.{unit_in, steps, due_at, turn, first_part};
 ghost use Rattle.bench.specs.Shown.{world, outcome, Room};
 
+use crate::code::Code;
 use crate::machine::Machine;
 use crate::position::{Position, Program};
 use fault::{Fault, Refusal, TickPlace};
-use netcode::{Layout, Step, program_count};
+use netcode::{Step, program_count};
 use plant::Plant;
 
 impl Machine {
@@ -72,19 +73,17 @@ impl Machine {
     // unit comes before its line unit.
     pub(crate) fn first_part<P: Plant>(
         &mut self,
-        layout: &Layout,
-        steps: &[Step],
+        code: Code<'_>,
         plant: &mut P,
     ) -> Result<(), Fault<TickPlace>>
-        requires lawful { LawfulBefore (programs_of layout.now steps.now) (program_count layout.now.stations) }
-        requires room { Room self.old.state 0 }
-        ensures { outcome result (world self.new.state (P.meaning plant.new)) ≡ first_part P.model (programs_of layout.now steps.now) (program_count layout.now.stations) (world self.old.state (P.meaning plant.old)) }
+        requires { Room self.old.state 0 }
+        ensures { outcome result (world self.new.state (P.meaning plant.new)) ≡ first_part P.model (programs_of code.entry.layout.now code.entry.steps.now) (program_count code.entry.layout.now.stations) (world self.old.state (P.meaning plant.old)) }
     {
-        let mut rest = steps;
-        for number in 0..program_count(layout.stations) {
-            let length = layout.lengths[number].min(rest.len());
-            let (code, others) = rest.split_at(length);
-            self.turn(Program { number }, code, plant)?;
+        let mut rest = code.steps;
+        for number in 0..program_count(code.layout.stations) {
+            let length = code.layout.lengths[number].min(rest.len());
+            let (steps, others) = rest.split_at(length);
+            self.turn(Program { number }, steps, plant)?;
             rest = others;
         }
         Ok(())

@@ -5,36 +5,37 @@ use Rattle.netcode.specs.Laws.{Lawful}
 use Rattle.netcode.proofs.Cuts.{cut}
 use Rattle.semantics.specs.Machine.{World, Outcome, first_part}
 use Rattle.bench.specs.Shown.{world, Ready}
+use Rattle.bench.proofs.Facts.{programs-lawful}
 use Rattle.bench.proofs.Kept.{out_state, ready-turn}
 use Rattle.bench.proofs.Loops.{head-is, tail-is, turn_on, first_ends, first-none}
 use Rattle.bench.proofs.machine.Machine.first_part.Goals as goal
 
 pub loop-number-init : goal.loop-number-init
-loop-number-init g c = (record { units = c.args.self.now.units; few = c.args.self.now.few; room = c.requires.room }, refl, first-none g.P.Plant.model _ _)
+loop-number-init g c = (record { units = c.args.self.now.units; few = c.args.self.now.few; room = c.requires }, refl, first-none g.P.Plant.model _ _)
 
 pub turn-requires : goal.turn-requires
 turn-requires g c =
-    let ns = c.args.layout.now.lengths in
-    let count = program_count c.args.layout.now.stations in
+    let ns = c.args.code.layout.now.lengths in
+    let count = program_count c.args.code.layout.now.stations in
     let i = c.loop-number.number in
     let xs = c.loop-number.rest.now in
-    let ps = programs_of c.args.layout.now c.args.steps.now in
+    let ps = programs_of c.args.code.layout.now c.args.code.steps.now in
     let n = c.min-length.result in
     let h : drop i ps ≡ take n xs ∷ cuts (drop (i + 1) (take count ns)) (drop n xs) = c.loop-number.invariant.1 ∙ cut ns count i n xs (omega arith) (omega arith) c.min-length.ensures in
     let e : get_or ps i [] ≡ take n xs = head-is ps i _ _ h in
     record {
-      lawful = subst Lawful (e ∙ sym c.split_at.ensures.front) (c.requires.lawful i (omega arith));
+      lawful = subst Lawful (e ∙ sym c.split_at.ensures.front) (programs-lawful c.args.code.layout.now c.args.code.steps.now c.args.code.lawful c.args.code.shape i (omega arith));
       room = c.loop-number.invariant.0.room;
     }
 
 pub returns-in_err-turn : goal.returns-in_err-turn
 returns-in_err-turn g c =
     let m = g.P.Plant.model in
-    let ns = c.args.layout.now.lengths in
-    let count = program_count c.args.layout.now.stations in
+    let ns = c.args.code.layout.now.lengths in
+    let count = program_count c.args.code.layout.now.stations in
     let i = c.loop-number.number in
     let xs = c.loop-number.rest.now in
-    let ps = programs_of c.args.layout.now c.args.steps.now in
+    let ps = programs_of c.args.code.layout.now c.args.code.steps.now in
     let n = c.min-length.result in
     let h : drop i ps ≡ take n xs ∷ cuts (drop (i + 1) (take count ns)) (drop n xs) = c.loop-number.invariant.1 ∙ cut ns count i n xs (omega arith) (omega arith) c.min-length.ensures in
     let e : get_or ps i [] ≡ take n xs = head-is ps i _ _ h in
@@ -46,11 +47,11 @@ returns-in_err-turn g c =
 pub loop-number-preserved : goal.loop-number-preserved
 loop-number-preserved g c =
     let m = g.P.Plant.model in
-    let ns = c.args.layout.now.lengths in
-    let count = program_count c.args.layout.now.stations in
+    let ns = c.args.code.layout.now.lengths in
+    let count = program_count c.args.code.layout.now.stations in
     let i = c.loop-number.number in
     let xs = c.loop-number.rest.now in
-    let ps = programs_of c.args.layout.now c.args.steps.now in
+    let ps = programs_of c.args.code.layout.now c.args.code.steps.now in
     let n = c.min-length.result in
     let w : World m.State = world c.loop-number.self.state (g.P.Plant.meaning c.loop-number.plant) in
     let h : drop i ps ≡ take n xs ∷ cuts (drop (i + 1) (take count ns)) (drop n xs) = c.loop-number.invariant.1 ∙ cut ns count i n xs (omega arith) (omega arith) c.min-length.ensures in
@@ -63,5 +64,5 @@ loop-number-preserved g c =
 
 pub returns : goal.returns
 returns g c =
-    let e : c.loop-number.number ≡ program_count c.args.layout.now.stations = omega arith in
-    c.loop-number.invariant.2 ∙ ap (λ n. first_part g.P.Plant.model (programs_of c.args.layout.now c.args.steps.now) n (world c.args.self.now.state (g.P.Plant.meaning c.args.plant.now))) e
+    let e : c.loop-number.number ≡ program_count c.args.code.layout.now.stations = omega arith in
+    c.loop-number.invariant.2 ∙ ap (λ n. first_part g.P.Plant.model (programs_of c.args.code.layout.now c.args.code.steps.now) n (world c.args.self.now.state (g.P.Plant.meaning c.args.plant.now))) e

@@ -7,6 +7,6 @@ use Rattle.bench.proofs.machine.Machine.first_part.Given as goal
 abbrev pub invariant-loop-number : goal.invariant-loop-number
 invariant-loop-number g l =
     Ready l.number l.self.state
-    × (drop l.number (programs_of l.layout l.steps) ≡ cuts (drop l.number (take (program_count l.layout.stations) l.layout.lengths)) l.rest)
+    × (drop l.number (programs_of l.code.layout.now l.code.steps.now) ≡ cuts (drop l.number (take (program_count l.code.layout.now.stations) l.code.layout.now.lengths)) l.rest)
     × (Outcome.done (world l.self.state (g.P.Plant.meaning l.plant))
-    ≡ first_part g.P.Plant.model (programs_of l.layout l.steps) l.number (world l.initial.self.state (g.P.Plant.meaning l.initial.plant)))
+    ≡ first_part g.P.Plant.model (programs_of l.code.layout.now l.code.steps.now) l.number (world l.initial.self.state (g.P.Plant.meaning l.initial.plant)))

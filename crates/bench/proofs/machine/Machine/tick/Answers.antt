@@ -9,7 +9,7 @@ pub returns-then-granted-self : goal.returns-then-granted-self
 returns-then-granted-self g c = record {
   quiet = record { units = c.requires.quiet.units; line = c.requires.quiet.line };
   outcome =
-      quiet-tick g.P.Plant.model (programs_of c.args.layout.now c.args.steps.now) c.args.self.now.quiet
+      quiet-tick g.P.Plant.model (programs_of c.args.code.layout.now c.args.code.steps.now) c.args.self.now.quiet
       (world c.args.self.now.state (g.P.Plant.meaning c.args.plant.now)) c.requires.quiet (omega arith)
-      (programs-few c.args.layout.now c.args.steps.now c.requires.shape) c.if-self.false (omega arith);
+      (programs-few c.args.code.layout.now c.args.code.steps.now c.args.code.shape) c.if-self.false (omega arith);
 }
