@@ -1,4 +1,4 @@
--- What a run's own facts say.
+-- What the facts of a run's programs say.
 use Rattle.std.proofs.Common.{◌≡◌, ◌≤◌, min, Bool, true, false, List, length, is_some, Some, None, Option, subst, arith}
 use Rattle.std.proofs.lemmas.Bool.{true≢false}
 use Rattle.fault.specs.declared.refusal.Fault.{Fault}
@@ -9,12 +9,7 @@ use Rattle.netcode.specs.Layouts.{station_of, program_count, programs_of}
 use Rattle.netcode.specs.Rules.{first_broken}
 use Rattle.netcode.specs.Laws.{LawfulBefore, Verdict}
 use Rattle.netcode.proofs.Verdicts.{judged-programs}
-use Rattle.bench.specs.Shown.{Lasts}
-use Rattle.bench.specs.declared.run.Run.{Run}
 use Rattle.bench.proofs.Lasting.{length-programs}
-
-pub run-lasts : (r : Run) → Lasts r.machine.state
-run-lasts r = record { units = r.machine.units; few = r.machine.few; counted = r.counted }
 
 -- Programs without a fault keep the rules.
 unbroken : (ps : List (List Step)) (o : Option (Fault StepPlace)) → is_some o ≡ false → Verdict ps o → LawfulBefore ps (length ps)

@@ -18,7 +18,7 @@ use Rattle.semantics.specs.declared.state.UnitState.{UnitState}
 use Rattle.semantics.specs.declared.state.Message.{Message}
 use Rattle.semantics.specs.Machine.{World, Stepped, Outcome, at, fault_at, unknown_at, blank_mark, mark_in, unit_in, word_in, is_idle, is_busy, with_job, with_timer, with_unit, marked, input_words, tested, called, answered, sent, on_line, listening, kept_from, performed, onward, steps, due_at, turn, and_then, first_part}
 use Rattle.semantics.specs.Machine.Stepped.{onto, halted}
-use Rattle.bench.specs.Shown.{Room, Ready, Fits}
+use Rattle.bench.specs.Shown.{Room, Fits}
 
 -- The fields of a step within its limits fit.
 pub fits-within : (count address : ℕ) (s : Step) → Within count address s → Fits s
@@ -162,9 +162,6 @@ module _ (m : Model) where
   kept-performed Clear program address w h = record { granted = refl; units = refl; room = λ r. r }
   kept-performed (Give c v x) program address w h = record { granted = refl; units = refl; room = λ r. r }
 
-pub ready-kept : (program : ℕ) (s t : State) → Kept program s t → Ready program s → Ready program t
-ready-kept program s t k r = record { units = k.units ∙ r.units; few = rw k.granted r.few; room = k.room r.room }
-
 kept_then : (program : ℕ) (s t u : State) → Kept program s t → Kept program t u → Kept program s u
 kept_then program s t u a b = record { granted = b.granted ∙ a.granted; units = b.units ∙ a.units; room = λ r. b.room (a.room r) }
 
@@ -173,14 +170,20 @@ out_state (Outcome.done w) = w.state
 out_state (Outcome.refused fault w) = w.state
 
 -- A turn may be followed by the next unit's.
-pub ready-next : (program : ℕ) (s : State) → Ready program s → Ready (program + 1) s
-ready-next program s r = record { units = r.units; few = r.few; room = λ k. go (is_busy s program) (is_busy s (program + 1)) k (r.room k) }
+room-next : (program : ℕ) (s : State) → Room s program → Room s (program + 1)
+room-next program s r k = go (is_busy s program) (is_busy s (program + 1)) k (r k)
   where
     go : (a b : Bool) (k : ℕ) → (mark_in s k).count ≤ 16 * s.granted + program + cond a 1 0 → (mark_in s k).count ≤ 16 * s.granted + (program + 1) + cond b 1 0
     go true true k h = omega (arith, h)
     go true false k h = omega (arith, h)
     go false true k h = omega (arith, h)
     go false false k h = omega (arith, h)
+
+-- What the turns of the first programs keep.
+pub record Turned (n : ℕ) (s t : State) : Type 0 where
+  pub granted : t.granted ≡ s.granted
+  pub units : length t.units ≡ length s.units
+  pub room : Room t n
 
 module _ (m : Model) where
   -- What a whole turn keeps.
@@ -211,21 +214,18 @@ module _ (m : Model) where
           let k = kept-timer program w.state None (unit_in w.state program).address h in
           kept_then program _ _ _ k (kept-steps (length code + 1) code program (unit_in w.state program).address (at w (with_timer w.state program None (unit_in w.state program).address)) (rw k.units h))
 
-  pub ready-turn : (code : List Step) (program : ℕ) (w : World m.State) → program < 16 → Ready program w.state → Ready (program + 1) (out_state (turn m code program w))
-  ready-turn code program w h r = ready-next program _ (ready-kept program _ _ (kept-turn code program w (rw r.units h)) r)
+  pub room-turn : (code : List Step) (program : ℕ) (w : World m.State) → program < length w.state.units → Room w.state program → Room (out_state (turn m code program w)) (program + 1)
+  room-turn code program w h r = room-next program (out_state (turn m code program w)) ((kept-turn code program w h).room r)
 
-  granted-turn : (code : List Step) (program : ℕ) (w : World m.State) → program < 16 → Ready program w.state → (out_state (turn m code program w)).granted ≡ w.state.granted
-  granted-turn code program w h r = (kept-turn code program w (rw r.units h)).granted
-
-  pub ready-first : (programs : List (List Step)) (n : ℕ) (w : World m.State) → n ≤ 16 → Ready 0 w.state
-      → Ready n (out_state (first_part m programs n w)) × ((out_state (first_part m programs n w)).granted ≡ w.state.granted)
+  pub turned-first : (programs : List (List Step)) (n : ℕ) (w : World m.State) → n ≤ length w.state.units → Room w.state 0 → Turned n w.state (out_state (first_part m programs n w))
   unfolding first_part
-  ready-first programs zero w h r = (r, refl)
-  ready-first programs (suc n) w h r =
-      let k = go (first_part m programs n w) (ready-first programs n w (omega arith) r) in
-      (subst (λ j. Ready j (out_state (first_part m programs (suc n) w))) (add-one n) k.0, k.1)
+  turned-first programs zero w h r = record { granted = refl; units = refl; room = r }
+  turned-first programs (suc n) w h r =
+      subst (λ j. Turned j w.state (out_state (first_part m programs (suc n) w))) (add-one n)
+      (go (first_part m programs n w) (turned-first programs n w (omega arith) r))
     where
-      go : (o : Outcome m.State) → Ready n (out_state o) × ((out_state o).granted ≡ w.state.granted)
-          → Ready (n + 1) (out_state (and_then o (turn m (get_or programs n []) n))) × ((out_state (and_then o (turn m (get_or programs n []) n))).granted ≡ w.state.granted)
-      go (Outcome.done v) k = (ready-turn (get_or programs n []) n v (omega arith) k.0, granted-turn (get_or programs n []) n v (omega arith) k.0 ∙ k.1)
-      go (Outcome.refused fault v) k = (ready-next n v.state k.0, k.1)
+      go : (o : Outcome m.State) → Turned n w.state (out_state o) → Turned (n + 1) w.state (out_state (and_then o (turn m (get_or programs n []) n)))
+      go (Outcome.done v) k =
+          let t = kept-turn (get_or programs n []) n v (rw k.units (omega arith)) in
+          record { granted = t.granted ∙ k.granted; units = t.units ∙ k.units; room = room-next n (out_state (turn m (get_or programs n []) n v)) (t.room k.room) }
+      go (Outcome.refused fault v) k = record { granted = k.granted; units = k.units; room = room-next n v.state k.room }

@@ -8,8 +8,8 @@ use Rattle.netcode.specs.declared.step.Step.TheVariants.{Halt}
 use Rattle.netcode.specs.Steps.{no_step, step_in}
 use Rattle.plant.specs.Model.{Model}
 use Rattle.semantics.specs.Machine.{World, Stepped, Outcome, performed, onward, steps, turn, and_then, first_part, unit_in, ended, second_part, leaves, parts}
-use Rattle.bench.specs.Shown.{stepped_to, outcome, Ready}
-use Rattle.bench.proofs.Kept.{state_of, kept-performed, ready-kept}
+use Rattle.bench.specs.Shown.{stepped_to, outcome, Room}
+use Rattle.bench.proofs.Kept.{state_of, kept-performed}
 
 module _ (m : Model) (code : List Step) (program : ℕ) where
   more : (n k address : ℕ) (w : World m.State) → k < n
@@ -35,12 +35,11 @@ module _ (m : Model) (code : List Step) (program : ℕ) where
   unfolding steps
   no_more n k address w all so h = let e : n - k ≡ 0 = omega arith in so ∙ ap (λ j. steps m j code program address w) e
 
-  -- What stands after a step that goes on.
-  pub ready_on : (address to : ℕ) (w v : World m.State) → program < 16 → Ready program w.state → (step : Step)
-      → ◌≡◌ {A = Stepped m.State} (Stepped.onto to v) (performed m step program address w) → Ready program v.state
-  ready_on address to w v unit ready step e =
-      subst (λ (s : Stepped m.State). Ready program (state_of s)) (sym e)
-      (ready-kept program w.state _ (kept-performed m step program address w (rw ready.units unit)) ready)
+  -- The room that is left after a step that goes on.
+  pub room_on : (address to : ℕ) (w v : World m.State) → program < length w.state.units → Room w.state program → (step : Step)
+      → ◌≡◌ {A = Stepped m.State} (Stepped.onto to v) (performed m step program address w) → Room v.state program
+  room_on address to w v unit room step e =
+      subst (λ (s : Stepped m.State). Room (state_of s) program) (sym e) ((kept-performed m step program address w unit).room room)
 
 -- The program at a place of the list, and those after it.
 pub head-is : (ps : List (List Step)) (i : ℕ) (x : List Step) (rest : List (List Step)) → drop i ps ≡ x ∷ rest → get_or ps i [] ≡ x

@@ -1,12 +1,12 @@
 -- What the code's answers and what stands then come to, as the machine says it.
-use Rattle.std.specs.Prelude.{◌≡◌, ℕ, ◌+◌, ◌*◌, ◌<◌, ◌≤◌, cond, length, Some, None, Ok, Err, Option, Result}
+use Rattle.std.specs.Prelude.{ℕ, ◌+◌, ◌*◌, ◌<◌, ◌≤◌, cond, Some, None, Ok, Err, Option, Result}
 use Rattle.fault.specs.declared.refusal.Fault.{Fault}
 use Rattle.fault.specs.declared.place.TickPlace.{TickPlace}
 use Rattle.netcode.specs.declared.step.Step.{Step}
 use Rattle.netcode.specs.declared.step.Step.TheVariants.{Test, Future, Halt, Call, Send, Receive, Keep, Clear, Give}
 use Rattle.netcode.specs.Laws.{InputsWithin}
 use Rattle.semantics.specs.declared.state.State.{State}
-use Rattle.semantics.specs.Machine.{World, Stepped, Outcome, limit, mark_in, is_busy}
+use Rattle.semantics.specs.Machine.{World, Stepped, Outcome, mark_in, is_busy}
 use Rattle.semantics.specs.Machine.Stepped.{onto, halted}
 
 -- A state with the plant's meaning.
@@ -39,15 +39,7 @@ Fits (Give cell variable word) = (cell < 16) × (variable < 64)
 abbrev pub Room : State → ℕ → Type 0
 Room s program = (row : ℕ) → (mark_in s row).count ≤ 16 * s.granted + program + cond (is_busy s program) 1 0
 
--- What stands in the turn of a program.
-pub record Ready (program : ℕ) (s : State) : Type 0 where
-  pub units : length s.units ≡ 16
-  pub few : s.granted ≤ limit
-  pub room : Room s program
-
--- What holds of every run: how many units there are, how many ticks were granted at most, and that no row was counted
--- more than once for each unit and tick, where a refused tick counts too.
-pub record Lasts (s : State) : Type 0 where
-  pub units : length s.units ≡ 16
-  pub few : s.granted ≤ limit
-  pub counted : (row : ℕ) → (mark_in s row).count ≤ 16 * s.granted + cond s.stopped 16 0
+-- No row was counted more than once for each unit and tick granted, where a refused tick counts too. So it is between the
+-- ticks of a run.
+abbrev pub Counted : State → Type 0
+Counted s = (row : ℕ) → (mark_in s row).count ≤ 16 * s.granted + cond s.stopped 16 0

@@ -2,7 +2,7 @@ ghost use Rattle.std.specs.Prelude.{◌≡◌, ℕ, ◌+◌, ◌*◌, ◌<◌, �
 ghost use Rattle.netcode.specs.Layouts.{programs_of};
 ghost use Rattle.semantics.specs.Machine.{limit, of_the_run, parts, tick};
 ghost use Rattle.bench.specs.Quiet.{Quiet};
-ghost use Rattle.bench.specs.Shown.{world, outcome, Room, Lasts};
+ghost use Rattle.bench.specs.Shown.{world, outcome, Room, Counted};
 
 use crate::code::Code;
 use crate::machine::Machine;
@@ -43,7 +43,7 @@ impl Machine {
         code: Code<'_>,
         plant: &mut P,
     ) -> Result<(), Fault<TickPlace>>
-        requires lasts { Lasts self.old.state }
+        requires counted { Counted self.old.state }
         requires quiet { Quiet self.old.quiet self.old.state }
         ensures quiet { Quiet self.new.quiet self.new.state }
         ensures outcome { outcome result (world self.new.state (P.meaning plant.new)) ≡ tick P.model (programs_of code.entry.layout.now code.entry.steps.now) (world self.old.state (P.meaning plant.old)) }

@@ -4,14 +4,14 @@ use Rattle.netcode.specs.Layouts.{cuts, program_count, programs_of}
 use Rattle.netcode.specs.Laws.{Lawful}
 use Rattle.netcode.proofs.Cuts.{cut}
 use Rattle.semantics.specs.Machine.{World, Outcome, first_part}
-use Rattle.bench.specs.Shown.{world, Ready}
+use Rattle.bench.specs.Shown.{world, Room}
 use Rattle.bench.proofs.Facts.{programs-lawful}
-use Rattle.bench.proofs.Kept.{out_state, ready-turn}
+use Rattle.bench.proofs.Kept.{out_state, room-turn}
 use Rattle.bench.proofs.Loops.{head-is, tail-is, turn_on, first_ends, first-none}
 use Rattle.bench.proofs.machine.Machine.first_part.Goals as goal
 
 pub loop-number-init : goal.loop-number-init
-loop-number-init g c = (record { units = c.args.self.now.units; few = c.args.self.now.few; room = c.requires }, refl, first-none g.P.Plant.model _ _)
+loop-number-init g c = (c.requires, refl, first-none g.P.Plant.model _ _)
 
 pub turn-requires : goal.turn-requires
 turn-requires g c =
@@ -25,7 +25,7 @@ turn-requires g c =
     let e : get_or ps i [] ≡ take n xs = head-is ps i _ _ h in
     record {
       lawful = subst Lawful (e ∙ sym c.split_at.ensures.front) (programs-lawful c.args.code.layout.now c.args.code.steps.now c.args.code.lawful c.args.code.shape i (omega arith));
-      room = c.loop-number.invariant.0.room;
+      room = c.loop-number.invariant.0;
     }
 
 pub returns-in_err-turn : goal.returns-in_err-turn
@@ -57,7 +57,7 @@ loop-number-preserved g c =
     let h : drop i ps ≡ take n xs ∷ cuts (drop (i + 1) (take count ns)) (drop n xs) = c.loop-number.invariant.1 ∙ cut ns count i n xs (omega arith) (omega arith) c.min-length.ensures in
     let e : get_or ps i [] ≡ take n xs = head-is ps i _ _ h in
     let t = c.in_ok-turn.ensures in (
-      subst (λ (o : Outcome m.State). Ready (i + 1) (out_state o)) (sym t) (ready-turn m _ i w (omega arith) c.loop-number.invariant.0),
+      subst (λ (o : Outcome m.State). Room (out_state o) (i + 1)) (sym t) (room-turn m _ i w (rw c.loop-number.self.units (omega arith)) c.loop-number.invariant.0),
       tail-is ps i _ _ h ∙ ap (cuts (drop (i + 1) (take count ns))) (sym c.split_at.ensures.back),
       turn_on m ps i _ w _ _ (Ok tt) c.loop-number.invariant.2 (e ∙ sym c.split_at.ensures.front) t,
     )

@@ -5,16 +5,16 @@ use Rattle.netcode.specs.Steps.{step_in}
 use Rattle.semantics.specs.Machine.{World, performed}
 use Rattle.bench.specs.Shown.{world, stepped_to}
 use Rattle.bench.proofs.Kept.{fits-within}
-use Rattle.bench.proofs.Loops.{step-on, past-on, no_more, ready_on}
+use Rattle.bench.proofs.Loops.{step-on, past-on, no_more, room_on}
 use Rattle.bench.proofs.machine.Machine.run.Goals as goal
 
 pub loop-init : goal.loop-init
-loop-init g c = (record { units = c.args.self.now.units; few = c.args.self.now.few; room = c.requires.room }, rw sub-zero refl)
+loop-init g c = (c.requires.room, rw sub-zero refl)
 
 pub perform-requires : goal.perform-requires
 perform-requires g c = record {
   fields = fits-within (length c.args.code.now) c.loop.address _ (c.requires.lawful.steps c.loop.address (omega arith));
-  room = c.loop.invariant.0.room;
+  room = c.loop.invariant.0;
 }
 
 pub returns-then-address-end : goal.returns-then-address-end
@@ -43,7 +43,7 @@ loop-preserved g c =
     let v : World m.State = world c.perform.new.self.state (g.P.Plant.meaning c.perform.new.plant) in
     let step = step_in c.args.code.now c.loop.address in
     let e : stepped_to (Ok (Some c.in-Some.to)) v ≡ performed m step c.args.program.number c.loop.address w = ap (λ (o : Option ℕ). stepped_to (Ok o) v) (sym c.in-Some.is) ∙ c.in_ok-perform.ensures in (
-      ready_on m c.args.code.now c.args.program.number c.loop.address c.in-Some.to w v c.args.program.known c.loop.invariant.0 step e,
+      room_on m c.args.code.now c.args.program.number c.loop.address c.in-Some.to w v (rw c.loop.self.units c.args.program.known) c.loop.invariant.0 step e,
       step-on m c.args.code.now c.args.program.number (length c.args.code.now + 1) c.loop.counter c.loop.address w _ c.loop.invariant.1 (omega arith) (omega arith) (Ok (Some c.in-Some.to)) v e,
     )
 
