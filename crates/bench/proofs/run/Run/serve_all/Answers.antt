@@ -30,7 +30,7 @@ loop-i-preserved g c =
     c.serve.ensures.served ∙ ap (λ (xs : List (List Step)). served m xs (get_or qs i Tick) v) (same-programs _ _ c.loop-i.invariant.0) in (
       same_then _ _ _ c.loop-i.invariant.0 c.serve.ensures.programs,
       left-more m ps qs w v u i c.serve.result c.loop-i-test.true c.loop-i.invariant.1 e,
-      pasted-more m ps qs w v u i c.serve.result c.args.replies.now c.loop-i.replies c.loop-i-test.true c.if-replies-requests.false c.loop-i.invariant.1 e c.loop-i.invariant.2,
+      pasted-more m ps qs w v u i c.serve.result c.args.replies.now c.loop-i.replies c.loop-i-test.true (omega arith) c.loop-i.invariant.1 e c.loop-i.invariant.2,
     )
 
 pub returns : goal.returns
@@ -39,6 +39,6 @@ returns g c =
     let w : World m.State = world_in c.args.self.now (g.P.Plant.meaning c.args.plant.now) in
     let v : World m.State = world_in c.loop-i.self (g.P.Plant.meaning c.loop-i.plant) in
     record {
-      served = all-served m (programs_in c.args.self.now) c.args.requests.now w v c.loop-i.i c.args.replies.now c.loop-i.replies (omega arith) c.if-replies-requests.false c.loop-i.invariant.1 c.loop-i.invariant.2;
+      served = all-served m (programs_in c.args.self.now) c.args.requests.now w v c.loop-i.i c.args.replies.now c.loop-i.replies (omega arith) (omega arith) c.loop-i.invariant.1 c.loop-i.invariant.2;
       programs = c.loop-i.invariant.0;
     }
