@@ -56,11 +56,12 @@ module _ (m : Model) (programs : List (List Step)) where
   first-none w = refl
 
   -- One unit more has had its turn.
-  pub turn_on : (n : ℕ) (w v u : World m.State) (code : List Step) (r : Result (Unit {0}) (Fault TickPlace)) → Outcome.done v ≡ first_part m programs n w
-      → get_or programs n [] ≡ code → outcome r u ≡ turn m code n v → outcome r u ≡ first_part m programs (n + 1) w
+  pub turn_on : (n number : ℕ) (w v u : World m.State) (code : List Step) (rest : List (List Step)) (r : Result (Unit {0}) (Fault TickPlace)) → Outcome.done v ≡ first_part m programs n w
+      → drop n programs ≡ code ∷ rest → number ≡ n → outcome r u ≡ turn m code number v → outcome r u ≡ first_part m programs (n + 1) w
   unfolding first_part
-  turn_on n w v u code r so c e =
-      e ∙ ap (λ (x : List Step). turn m x n v) (sym c) ∙ ap (λ (o : Outcome m.State). and_then o (turn m (get_or programs n []) n)) so ∙ ap (λ k. first_part m programs k w) (sym (add-one n))
+  turn_on n number w v u code rest r so left same e =
+      e ∙ ap (λ k. turn m code k v) same ∙ ap (λ (x : List Step). turn m x n v) (sym (head-is programs n code rest left))
+      ∙ ap (λ (o : Outcome m.State). and_then o (turn m (get_or programs n []) n)) so ∙ ap (λ k. first_part m programs k w) (sym (add-one n))
 
   first-stays : (k n : ℕ) (w u : World m.State) (f : Fault TickPlace) → Outcome.refused f u ≡ first_part m programs n w → Outcome.refused f u ≡ first_part m programs (k + n) w
   unfolding first_part
@@ -95,15 +96,13 @@ module _ (m : Model) (programs : List (List Step)) where
   second-ends clock n count w u f h e = let z : count - n + n ≡ count = omega arith in second-stays clock (count - n) n w u f e ∙ ap (λ j. second_part m programs clock j w) z
 
   -- Both parts, from what the first and the second came to.
-  pub first-refused : (count : ℕ) (w u : World m.State) (f : Fault TickPlace) → length programs ≡ count → Outcome.refused f u ≡ first_part m programs count w → Outcome.refused f u ≡ parts m programs w
-  first-refused count w u f c e =
-      ap (λ (o : Outcome m.State). and_then o (λ v. and_then (second_part m programs (w.state.granted + 1) (length programs) v) (λ x. Outcome.done (leaves m (w.state.granted + 1) x))))
-      (e ∙ ap (λ n. first_part m programs n w) (sym c))
+  pub first-refused : (w u : World m.State) (f : Fault TickPlace) → Outcome.refused f u ≡ first_part m programs (length programs) w → Outcome.refused f u ≡ parts m programs w
+  first-refused w u f e =
+      ap (λ (o : Outcome m.State). and_then o (λ v. and_then (second_part m programs (w.state.granted + 1) (length programs) v) (λ x. Outcome.done (leaves m (w.state.granted + 1) x)))) e
 
-  pub second-came : (count : ℕ) (w v u : World m.State) (r : Result (Unit {0}) (Fault TickPlace)) → length programs ≡ count → Outcome.done v ≡ first_part m programs count w
+  pub second-came : (count : ℕ) (w v u : World m.State) (r : Result (Unit {0}) (Fault TickPlace)) → count ≡ length programs → Outcome.done v ≡ first_part m programs (length programs) w
       → outcome r u ≡ second_part m programs (w.state.granted + 1) count v
       → and_then (outcome r u) (λ x. Outcome.done (leaves m (w.state.granted + 1) x)) ≡ parts m programs w
   second-came count w v u r c e d =
-      ap (λ (o : Outcome m.State). and_then o (λ x. Outcome.done (leaves m (w.state.granted + 1) x))) (d ∙ ap (λ n. second_part m programs (w.state.granted + 1) n v) (sym c))
-      ∙ ap (λ (o : Outcome m.State). and_then o (λ v. and_then (second_part m programs (w.state.granted + 1) (length programs) v) (λ x. Outcome.done (leaves m (w.state.granted + 1) x))))
-      (e ∙ ap (λ n. first_part m programs n w) (sym c))
+      ap (λ (o : Outcome m.State). and_then o (λ x. Outcome.done (leaves m (w.state.granted + 1) x))) (d ∙ ap (λ n. second_part m programs (w.state.granted + 1) n v) c)
+      ∙ ap (λ (o : Outcome m.State). and_then o (λ v. and_then (second_part m programs (w.state.granted + 1) (length programs) v) (λ x. Outcome.done (leaves m (w.state.granted + 1) x)))) e

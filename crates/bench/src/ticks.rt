@@ -7,7 +7,6 @@ ghost use Rattle.bench.specs.Shown.{world, outcome, Room, Counted};
 use crate::code::Code;
 use crate::machine::Machine;
 use fault::{Fault, Refusal, TickPlace};
-use netcode::program_count;
 use plant::Plant;
 
 // Most ticks that a run grants.
@@ -30,9 +29,8 @@ impl Machine {
         ensures { outcome result (world self.new.state (P.meaning plant.new)) ≡ parts P.model (programs_of code.entry.layout.now code.entry.steps.now) (world self.old.state (P.meaning plant.old)) }
     {
         let clock = self.state.granted + 1;
-        let count = program_count(code.layout.stations);
         self.first_part(code, plant)?;
-        self.second_part::<P>(clock, count)?;
+        self.second_part::<P>(clock, code.count())?;
         self.free_line::<P>(clock);
         Ok(())
     }

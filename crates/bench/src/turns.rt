@@ -1,5 +1,5 @@
 ghost use Rattle.std.specs.Prelude.{◌≡◌, ℕ, ◌+◌, ◌*◌, ◌^◌, ◌<◌, ◌≤◌, length};
-ghost use Rattle.netcode.specs.Layouts.{program_count, programs_of};
+ghost use Rattle.netcode.specs.Layouts.{programs_of};
 ghost use Rattle.netcode.specs.Laws.{Lawful};
 ghost use Rattle.semantics.specs.Machine.{unit_in, steps, due_at, turn, first_part};
 ghost use Rattle.bench.specs.Shown.{world, outcome, Room};
@@ -8,7 +8,7 @@ use crate::code::Code;
 use crate::machine::Machine;
 use crate::position::{Position, Program};
 use fault::{Fault, Refusal, TickPlace};
-use netcode::{Step, program_count};
+use netcode::Step;
 use plant::Plant;
 
 impl Machine {
@@ -77,14 +77,10 @@ impl Machine {
         plant: &mut P,
     ) -> Result<(), Fault<TickPlace>>
         requires { Room self.old.state 0 }
-        ensures { outcome result (world self.new.state (P.meaning plant.new)) ≡ first_part P.model (programs_of code.entry.layout.now code.entry.steps.now) (program_count code.entry.layout.now.stations) (world self.old.state (P.meaning plant.old)) }
+        ensures { let programs = programs_of code.entry.layout.now code.entry.steps.now in outcome result (world self.new.state (P.meaning plant.new)) ≡ first_part P.model programs (length programs) (world self.old.state (P.meaning plant.old)) }
     {
-        let mut rest = code.steps;
-        for number in 0..program_count(code.layout.stations) {
-            let length = code.layout.lengths[number].min(rest.len());
-            let (steps, others) = rest.split_at(length);
+        for (number, steps) in code.layout.programs(code.steps).enumerate() {
             self.turn(Program { number }, steps, plant)?;
-            rest = others;
         }
         Ok(())
     }
