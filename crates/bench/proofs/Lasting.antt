@@ -1,5 +1,5 @@
 -- What holds of every run lasts.
-use Rattle.std.proofs.Common.{◌≡◌, ℕ, zero, suc, ◌+◌, ◌*◌, ◌<◌, ◌≤◌, Bool, true, false, cond, not, eqb, ltb, List, [], ◌∷◌, length, get_or, take, drop, replicate, Some, None, Ok, Err, Option, Result, sym, refl, ap, ◌∙◌, subst, inl, inr, arith}
+use Rattle.std.proofs.Common.{◌≡◌, ℕ, zero, suc, ◌+◌, ◌*◌, ◌<◌, ◌≤◌, Bool, true, false, cond, not, eqb, ltb, List, length, get_or, take, replicate, Some, None, Ok, Err, Option, Result, sym, refl, ap, ◌∙◌, subst, inl, inr, arith}
 use Rattle.std.proofs.lemmas.List.{length-take, get_or_past}
 use Rattle.std.proofs.lemmas.Bool.{cases_lt}
 use Rattle.fault.specs.declared.refusal.Fault.{Fault}
@@ -7,7 +7,8 @@ use Rattle.fault.specs.declared.refusal.Refusal.TheVariants.{NoMessage, Stopped,
 use Rattle.fault.specs.declared.place.TickPlace.{TickPlace}
 use Rattle.netcode.specs.declared.step.Step.{Step}
 use Rattle.netcode.specs.declared.step.Layout.{Layout}
-use Rattle.netcode.specs.Layouts.{cuts, program_count, programs_of}
+use Rattle.netcode.specs.Layouts.{program_count, programs_of}
+use Rattle.netcode.proofs.Cuts.{length-cuts}
 use Rattle.plant.specs.Model.{Model}
 use Rattle.semantics.specs.declared.state.State.{State}
 use Rattle.semantics.specs.declared.state.Mark.{Mark}
@@ -20,10 +21,6 @@ use Rattle.bench.specs.Shown.{Room, Counted, outcome}
 use Rattle.bench.proofs.Kept.{out_state, Turned, turned-first}
 
 -- There are as many programs as the stations have.
-length-cuts : {X : Type 0} (ns : List ℕ) (xs : List X) → length (cuts ns xs) ≡ length ns
-length-cuts [] xs = refl
-length-cuts (n ∷ ns) xs = ap suc (length-cuts ns (drop n xs))
-
 pub length-programs : (layout : Layout) (steps : List Step) → length layout.lengths ≡ 16 → length (programs_of layout steps) ≡ program_count layout.stations
 length-programs layout steps h =
     length-cuts (take (program_count layout.stations) layout.lengths) steps ∙ simp length-take (omega arith)

@@ -1,4 +1,6 @@
+pub mod Left
 pub mod Kept
+pub mod Addresses
 pub mod Loops
 pub mod Lasting
 pub mod Facts

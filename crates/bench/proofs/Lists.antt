@@ -1,7 +1,7 @@
 -- One request more of a list.
 use Rattle.std.proofs.Common.{◌≡◌, ℕ, suc, ◌+◌, ◌<◌, ◌≤◌, List, [], ◌∷◌, ◌++◌, length, get_or, drop, set, Ok, sym, refl, ap, ◌∙◌, zero-add, arith}
 use lib.Seq.{paste}
-use Rattle.std.proofs.lemmas.List.{drop_more, drop_all, get_or-drop, drop-drop}
+use Rattle.std.proofs.lemmas.List.{drop_more, drop_all}
 use Rattle.std.proofs.lemmas.List.Edits.{paste_more, paste_all}
 use Rattle.std.proofs.lemmas.Bool.{le-ltb}
 use Rattle.netcode.specs.declared.step.Step.{Step}
@@ -11,15 +11,8 @@ use Rattle.semantics.specs.declared.state.Request.{Request}
 use Rattle.semantics.specs.declared.state.Request.TheVariants.{Tick}
 use Rattle.semantics.specs.Machine.{World}
 use Rattle.semantics.specs.Requests.{Served, ServedAll, served, served_all, after_first}
+use Rattle.bench.proofs.Left.{head-is, tail-is}
 use Rattle.bench.specs.Replies.{replied, answered, served_into}
-
-head_of : (xs : List Reply) (i : ℕ) (x : Reply) (rest : List Reply) (d : Reply) → drop i xs ≡ x ∷ rest → get_or xs i d ≡ x
-head_of xs i x rest d e =
-    let z : i + 0 ≡ i = omega arith in
-    ap (λ j. get_or xs j d) (sym z) ∙ sym (get_or-drop i xs 0 d) ∙ ap (λ (ys : List Reply). get_or ys 0 d) e
-
-tail_of : (xs : List Reply) (i : ℕ) (x : Reply) (rest : List Reply) → drop i xs ≡ x ∷ rest → drop (i + 1) xs ≡ rest
-tail_of xs i x rest e = sym (drop-drop 1 i xs) ∙ ap (λ (ys : List Reply). drop 1 ys) e
 
 module _ (m : Model) (ps : List (List Step)) where
   length-replies : (qs : List Request) (w : World m.State) → length (served_all m ps qs w).replies ≡ length qs
@@ -48,12 +41,12 @@ module _ (m : Model) (ps : List (List Step)) where
   -- The reply at a place of the list, and what is left then.
   pub reply-is : (qs : List Request) (w v u : World m.State) (i : ℕ) (r d : Reply) → i < length qs → Left qs w i v → replied r u ≡ served m ps (get_or qs i Tick) v
       → get_or (served_all m ps qs w).replies i d ≡ r
-  reply-is qs w v u i r d h l e = head_of _ i r _ d (sym (ap (λ (s : ServedAll m.State). s.replies) (both qs w v u i r h l e)))
+  reply-is qs w v u i r d h l e = head-is _ i r _ (sym (ap (λ (s : ServedAll m.State). s.replies) (both qs w v u i r h l e))) d
 
   pub left-more : (qs : List Request) (w v u : World m.State) (i : ℕ) (r : Reply) → i < length qs → Left qs w i v → replied r u ≡ served m ps (get_or qs i Tick) v → Left qs w (i + 1) u
   left-more qs w v u i r h l e =
       let b = both qs w v u i r h l e in
-      let t = tail_of _ i r _ (sym (ap (λ (s : ServedAll m.State). s.replies) b)) in
+      let t = tail-is _ i r _ (sym (ap (λ (s : ServedAll m.State). s.replies) b)) in
       let x = ap (λ (s : ServedAll m.State). s.world) b in
       ap (λ (rs : List Reply). record { replies = rs; world = (served_all m ps (drop (i + 1) qs) u).world }) (sym t)
       ∙ ap (λ (y : World m.State). record { replies = drop (i + 1) (served_all m ps qs w).replies; world = y }) x

@@ -24,14 +24,9 @@ impl Machine {
         requires room { Room self.old.state program.number }
         ensures { outcome result (world self.new.state (P.meaning plant.new)) ≡ steps P.model (length code.now + 1) code.now program.number start (world self.old.state (P.meaning plant.old)) }
     {
-        let end = code.len() as u32;
         let mut address = start;
-        for _ in 0..end + 1 {
-            if address >= end {
-                return Ok(());
-            }
-            let step = code[address as usize];
-            match self.perform(Position { program, address }, step, plant)? {
+        while let Some(step) = code.get(address as usize) {
+            match self.perform(Position { program, address }, *step, plant)? {
                 None => return Ok(()),
                 Some(to) => address = to,
             }

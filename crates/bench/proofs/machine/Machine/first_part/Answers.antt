@@ -1,4 +1,4 @@
-use Rattle.std.proofs.Common.{◌+◌, length, Ok, Err, sym, refl, ap, ◌∙◌, subst, zero-add, arith}
+use Rattle.std.proofs.Common.{◌+◌, [], length, Ok, Err, sym, refl, ap, ◌∙◌, subst, zero-add, arith}
 use Rattle.std.proofs.lemmas.Result.{err_from_is_err_and}
 use Rattle.netcode.specs.Layouts.{programs_of}
 use Rattle.netcode.specs.Laws.{Lawful}
@@ -6,7 +6,8 @@ use Rattle.semantics.specs.Machine.{World, Outcome, turn}
 use Rattle.bench.specs.Shown.{world, Room}
 use Rattle.bench.proofs.Facts.{programs-lawful, programs-few}
 use Rattle.bench.proofs.Kept.{out_state, room-turn}
-use Rattle.bench.proofs.Loops.{head-is, tail-is, turn_on, first_ends, first-none}
+use Rattle.bench.proofs.Left.{head-is, tail-is}
+use Rattle.bench.proofs.Loops.{turn_on, first_ends, first-none}
 use Rattle.bench.proofs.machine.Machine.first_part.Goals as goal
 
 pub loop-number-init : goal.loop-number-init
@@ -21,7 +22,7 @@ turn-requires-clause-lawful g c =
     let ps = programs_of code.layout.now code.steps.now in
     let n = c.loop-number.number-iterator.count in
     let left = c.loop-number.invariant.left ∙ c.in-Some.ensures.steps.0 in
-    subst Lawful (head-is ps n _ _ left) (programs-lawful ps code.lawful n (omega (arith, c.loop-number.invariant.all, ap length c.in-Some.ensures.steps.0)))
+    subst Lawful (head-is ps n _ _ left []) (programs-lawful ps code.lawful n (omega (arith, c.loop-number.invariant.all, ap length c.in-Some.ensures.steps.0)))
 
 pub loop-number-preserved : goal.loop-number-preserved
 loop-number-preserved g c =
