@@ -1,14 +1,16 @@
 -- All programs, one after the other.
-use Rattle.std.proofs.Common.{◌≡◌, ℕ, zero, suc, ◌+◌, ◌-◌, ◌<◌, ◌≤◌, List, [], ◌∷◌, ◌++◌, map, length, take, drop, set, replicate, sym, refl, ap, ◌∙◌, append_assoc, add-zero, zero-add, arith, length-append, length-set, take-append-drop}
+use Rattle.std.proofs.Common.{◌≡◌, ℕ, zero, suc, ◌+◌, ◌-◌, ◌<◌, ◌≤◌, min, List, [], ◌∷◌, ◌++◌, map, length, take, drop, set, replicate, sym, refl, ap, ◌∙◌, ap₂, append_assoc, append-nil, add-zero, zero-add, arith, length-append, length-set, length-drop, length-take, length-take-le, take-append-drop}
+use Rattle.std.proofs.Math.Seq.{take-length, drop-length}
+use borrow.Rule.Slice.PartMut.{put_mid}
 use lib.ListN.{length-map}
-use Rattle.std.proofs.lemmas.List.{take_more_set, drop-set-lt}
+use Rattle.std.proofs.lemmas.List.{take_more_set, drop-set-lt, set-append_right}
 use Rattle.sheet.specs.declared.row.Head.{Head}
 use Rattle.sheet.specs.declared.row.Row.{Row}
 use Rattle.netcode.specs.declared.step.Step.{Step}
 use Rattle.netcode.specs.Layouts.{program_count}
 use Rattle.translate.specs.Stores.{stored, steps_of, laid_on}
 use Rattle.translate.specs.Translation.{program_code, programs_from, translated}
-use Rattle.translate.proofs.Puts.{stored-append}
+use Rattle.translate.proofs.Writing.{stored-append}
 
 module _ (cycle : ℕ) (rows : List Row) where
   pub more : (p n : ℕ) → p < n → programs_from cycle rows p (n - p) ≡ program_code cycle rows p ∷ programs_from cycle rows (p + 1) (n - (p + 1))
@@ -38,6 +40,27 @@ module _ (cycle : ℕ) (rows : List Row) where
       → stored old p (map length (programs_from cycle rows p (n - p)))
       ≡ stored (set old p (length (program_code cycle rows p))) (p + 1) (map length (programs_from cycle rows (p + 1) (n - (p + 1))))
   lengths-more p n old l = ap (λ (ps : List (List Step)). stored old p (map length ps)) (more p n l)
+
+-- Storing a list in the part of another from `at` on stores it there in the whole.
+stored-right : {X : Type 0} (pre ys new : List X) (k n : ℕ) → n ≡ length pre + k → stored (pre ++ ys) n new ≡ pre ++ stored ys k new
+stored-right {X = X} pre ys [] k n e = refl
+stored-right {X = X} pre ys (x ∷ new) k n e =
+    let z : n - length pre ≡ k = omega arith in
+    ap (λ (xs : List X). stored xs (n + 1) new) (set-append_right pre ys (length pre) n x refl (omega arith) ∙ ap (λ (j : ℕ). pre ++ set ys j x) z)
+    ∙ stored-right pre (set ys k x) new (k + 1) (n + 1) (omega arith)
+
+pub length-part : {X : Type 0} (old : List X) (at : ℕ) → length (take (length old - at) (drop at old)) ≡ length old - at
+length-part old at = length-take (length old - at) (drop at old) ∙ ap (λ (j : ℕ). min (length old - at) j) (length-drop at old) ∙ omega arith
+
+pub stored-part : {X : Type 0} (old new : List X) (at : ℕ) → at ≤ length old → put_mid at (length old - at) old (stored (take (length old - at) (drop at old)) 0 new) ≡ stored old at new
+stored-part {X = X} old new at l =
+    let n : length old - at ≡ length (drop at old) = sym (length-drop at old) in
+    let whole : take (length old - at) (drop at old) ≡ drop at old = ap (λ (j : ℕ). take j (drop at old)) n ∙ take-length (drop at old) in
+    ap₂ (λ (xs : List X) (j : ℕ). take at old ++ (stored xs 0 new ++ drop j (drop at old))) whole n
+    ∙ ap (λ (xs : List X). take at old ++ (stored (drop at old) 0 new ++ xs)) (drop-length (drop at old))
+    ∙ ap (λ (xs : List X). take at old ++ xs) (append-nil _)
+    ∙ sym (stored-right (take at old) (drop at old) new 0 at (sym (ap (λ (j : ℕ). j + 0) (length-take-le at old l) ∙ add-zero at)))
+    ∙ ap (λ (xs : List X). stored xs at new) (take-append-drop at old)
 
 -- Storing a list where there is room puts it in the place of what was there.
 stored_at : {X : Type 0} (old : List X) (at : ℕ) (new : List X) → at + length new ≤ length old → stored old at new ≡ take at old ++ (new ++ drop (at + length new) old)

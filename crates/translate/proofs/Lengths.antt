@@ -1,67 +1,46 @@
 -- The lengths of a program's parts, and where its blocks begin.
-use Rattle.std.proofs.Common.{◌≡◌, ℕ, zero, suc, ◌+◌, ◌-◌, ◌*◌, ◌<◌, ◌≤◌, min, Bool, true, false, cond, eqb, ◌⊎◌, List, [], ◌∷◌, ◌++◌, length, sym, refl, ap, ◌∙◌, ap₂, inl, inr, append-nil, add-zero, add-suc, arith, length-append}
-use Rattle.std.proofs.lemmas.Bool.{cases_Bool, cond-true, cond-false, eq-eqb, ne_eqb}
+use Rattle.std.proofs.Common.{◌≡◌, ℕ, zero, suc, ◌+◌, ◌-◌, ◌*◌, ◌<◌, ◌≤◌, Bool, true, false, cond, ◌⊎◌, List, [], ◌∷◌, ◌++◌, length, sym, refl, ap, ◌∙◌, ap₂, inl, inr, append-nil, add-zero, add-suc, arith, length-append}
+use Rattle.std.proofs.lemmas.Bool.{cases_Bool, cond-true, cond-false}
 use Rattle.sheet.specs.declared.row.Test.{Test}
+use Rattle.sheet.specs.declared.row.Condition.{Condition}
+use Rattle.sheet.specs.declared.row.Condition.TheVariants.{Always, One, Two, Three, Four}
 use Rattle.sheet.specs.declared.row.Row.{Row}
-use Rattle.sheet.specs.Rows.{row_at}
+use Rattle.sheet.specs.declared.row.Row.TheVariants.{Keep as keep_row, Call as call_row, Send as send_row}
+use Rattle.sheet.specs.Rows.{tests_of, row_at}
 use Rattle.netcode.specs.declared.step.Step.{Step}
-use Rattle.netcode.specs.declared.step.Step.TheVariants.{Halt, Clear}
-use Rattle.translate.specs.Translation.{tests_in, end_of, is_line, act, keep_step, give_step, is_due, is_date, first_date, row_length, rows_length, address, wait_for, tests_code, row_code, rows_code, code_to, keeps_to, gives_to, preparation, opening_length, opening, program_code}
-use Rattle.translate.proofs.Dates.{first-here, first-skip, first-least, first-none-before, rows-push, some-row}
+use Rattle.netcode.specs.declared.step.Step.TheVariants.{Halt}
+use Rattle.translate.specs.Translation.{tests_in, end_of, act, is_due, is_date, first_date, row_length, rows_length, address, wait_for, tests_code, row_code, rows_code, code_to, preparation, opening_length, opening, program_code}
+use Rattle.translate.proofs.Dates.{first-none-before, some-row}
+
+condition-few : (c : Condition) → length (tests_of c) ≤ 4
+condition-few Always = omega arith
+condition-few (One a) = omega arith
+condition-few (Two a b) = omega arith
+condition-few (Three a b c) = omega arith
+condition-few (Four a b c d) = omega arith
+
+tests-few : (row : Row) → length (tests_in row) ≤ 4
+tests-few (keep_row k) = omega arith
+tests-few (call_row c) = condition-few c.condition
+tests-few (send_row s) = condition-few s.condition
 
 module _ (cycle : ℕ) (rows : List Row) (p : ℕ) where
-  pub rows_none : (d : ℕ) → rows_length cycle rows p d 0 0 ≡ 0
+  pub rows_few : (d m i : ℕ) → rows_length cycle rows p d i m ≤ 7 * m
   unfolding rows_length
-  rows_none d = refl
-
-  pub rows_more : (d i s k : ℕ) → s ≡ rows_length cycle rows p d 0 i → k ≡ cond (is_due cycle rows p d i) (row_length cycle rows p i) 0
-      → s + k ≡ rows_length cycle rows p d 0 (i + 1)
-  rows_more d i s k e f =
-      let z : i + 1 ≡ suc i = omega arith in
-      let y : 0 + i ≡ i = omega arith in
-      ap₂ (λ (a b : ℕ). a + b) e f ∙ sym (ap (rows_length cycle rows p d 0) z ∙ rows-push cycle rows p d i 0 ∙ ap (λ (k : ℕ). rows_length cycle rows p d 0 i + cond (is_due cycle rows p d k) (row_length cycle rows p k) 0) y)
-
-  pub keeps-none : (length (keeps_to rows p 0) ≡ 0) × (length (gives_to rows p 0) ≡ 0)
-  unfolding keeps_to gives_to
-  keeps-none = (refl, refl)
-
-  pub keeps-more : (n s k : ℕ) → s ≡ length (keeps_to rows p n) → k ≡ length (keep_step p n (row_at rows n)) → s + k ≡ length (keeps_to rows p (n + 1))
-  unfolding keeps_to
-  keeps-more n s k e f =
-      let z : n + 1 ≡ suc n = omega arith in
-      ap₂ (λ (a b : ℕ). a + b) e f ∙ sym (ap (λ (m : ℕ). length (keeps_to rows p m)) z ∙ length-append (keeps_to rows p n) _)
-
-  pub gives_more : (n s k : ℕ) → s ≡ length (gives_to rows p n) → k ≡ length (give_step p n (row_at rows n)) → s + k ≡ length (gives_to rows p (n + 1))
-  unfolding gives_to
-  gives_more n s k e f =
-      let z : n + 1 ≡ suc n = omega arith in
-      ap₂ (λ (a b : ℕ). a + b) e f ∙ sym (ap (λ (m : ℕ). length (gives_to rows p m)) z ∙ length-append (gives_to rows p n) _)
-
-  -- How many steps prepare a station that has k keep rows.
-  pub preparation-length : (k : ℕ) → k ≡ length (keeps_to rows p (length rows)) → k ≡ length (gives_to rows p (length rows))
-      → length (preparation rows p) ≡ cond (is_line p) 0 (2 * k + 1)
-  preparation-length k e f = go (is_line p)
+  rows_few d zero i = omega arith
+  rows_few d (suc m) i = go (is_due cycle rows p d i) (rows_few d m (suc i)) (tests-few (row_at rows i))
     where
-      K : List Step
-      K = keeps_to rows p (length rows)
+      go : (b : Bool) → rows_length cycle rows p d (suc i) m ≤ 7 * m → length (tests_in (row_at rows i)) ≤ 4 → cond b (row_length cycle rows p i) 0 + rows_length cycle rows p d (suc i) m ≤ 7 * suc m
+      go true l t = omega arith
+      go false l t = omega arith
 
-      G : List Step
-      G = gives_to rows p (length rows)
-
-      go : (b : Bool) → length (cond b [] (keeps_to rows p (length rows) ++ (Clear ∷ gives_to rows p (length rows)))) ≡ cond b 0 (2 * k + 1)
-      go true = refl
-      go false = let l = length-append (keeps_to rows p (length rows)) (Clear ∷ gives_to rows p (length rows)) in omega arith
-
-  -- 0 is a date exactly if it is the first.
-  pub zero-date : 0 < cycle → is_date cycle rows p 0 ≡ eqb (first_date cycle rows p 0) 0
-  zero-date l = go (cases_Bool (is_date cycle rows p 0))
-    where
-      go : (is_date cycle rows p 0 ≡ true) ⊎ (is_date cycle rows p 0 ≡ false) → is_date cycle rows p 0 ≡ eqb (first_date cycle rows p 0) 0
-      go (inl q) = q ∙ sym (eq-eqb _ _ (first-here cycle rows p 0 (omega arith) q))
-      go (inr q) =
-          let e = first-skip cycle rows p 0 (length rows) q in
-          let a = first-least cycle rows p 1 (length rows) l in
-          q ∙ sym (ne_eqb (first_date cycle rows p 0) 0 (λ z. omega arith))
+  -- One row more of a block.
+  pub length-step : (d i n : ℕ) → i < n → rows_length cycle rows p d i (n - i) ≡ cond (is_due cycle rows p d i) (row_length cycle rows p i) 0 + rows_length cycle rows p d (i + 1) (n - (i + 1))
+  unfolding rows_length
+  length-step d i n l =
+      let z : n - i ≡ suc (n - (i + 1)) = omega arith in
+      let y : suc i ≡ i + 1 = omega arith in
+      ap (rows_length cycle rows p d i) z ∙ ap (λ (k : ℕ). cond (is_due cycle rows p d i) (row_length cycle rows p i) 0 + rows_length cycle rows p d k (n - (i + 1))) y
 
   -- No block begins between a date and the first not before it.
   none_between : (e y : ℕ) → e ≤ y → y < first_date cycle rows p e → is_date cycle rows p y ≡ false
@@ -161,20 +140,10 @@ module _ (cycle : ℕ) (rows : List Row) (p : ℕ) where
   pub program-length : length (program_code cycle rows p) ≡ address cycle rows p (opening_length cycle rows p) cycle
   program-length = code-length (opening cycle rows p) cycle ∙ ap (λ (o : ℕ). address cycle rows p o cycle) opening-length
 
-  pub opening-now : (x k : ℕ) → 0 < cycle → x ≡ first_date cycle rows p 0 → x ≡ 0 → k ≡ length (preparation rows p) → k ≡ opening_length cycle rows p
-  opening-now x k l e z f = f ∙ sym (ap (λ (b : Bool). length (preparation rows p) + cond b 0 2) (zero-date l ∙ eq-eqb _ _ (sym e ∙ z)) ∙ add-zero _)
+  address-add : (o d k : ℕ) → address cycle rows p o d ≤ address cycle rows p o (d + k)
+  unfolding address
+  address-add o d zero = let e = ap (address cycle rows p o) (add-zero d) in omega arith
+  address-add o d (suc k) = let e = ap (address cycle rows p o) (add-suc d k) in let a = address-add o d k in omega arith
 
-  pub opening-later : (x k : ℕ) → 0 < cycle → x ≡ first_date cycle rows p 0 → (x ≡ 0 → ⊥) → k ≡ length (preparation rows p) → k + 2 ≡ opening_length cycle rows p
-  opening-later x k l e z f = ap (λ (j : ℕ). j + 2) f ∙ sym (ap (λ (b : Bool). length (preparation rows p) + cond b 0 2) (zero-date l ∙ ne_eqb _ _ (λ q. z (e ∙ q))))
-
-  -- The blocks before the first date, and before a date at or after the next one.
-  pub block-first : (o x d : ℕ) → x ≡ first_date cycle rows p 0 → o ≡ address cycle rows p o (min x d)
-  block-first o x d e = sym (address-skip o 0 (min x d) (omega arith) (omega arith) ∙ address-none o)
-
-  pub block-next : (o d x y k place : ℕ) → x < d → d ≤ cycle → y ≡ first_date cycle rows p (suc x) → is_date cycle rows p x ≡ true
-      → k ≡ rows_length cycle rows p x 0 (length rows) → place ≡ address cycle rows p o (min x d) → place + (k + 2) ≡ address cycle rows p o (min y d)
-  block-next o d x y k place l m e q f g =
-      let z : min x d ≡ x = omega arith in
-      let a = first-least cycle rows p (suc x) (length rows) (omega arith) in
-      ap (λ (j : ℕ). j + (k + 2)) (g ∙ ap (address cycle rows p o) z) ∙ address_more o x k q f
-      ∙ sym (address-skip o (suc x) (min y d) (omega arith) (omega arith))
+  pub address-up : (o d e : ℕ) → d ≤ e → address cycle rows p o d ≤ address cycle rows p o e
+  address-up o d e l = let a = address-add o d (e - d) in let q : d + (e - d) ≡ e = omega arith in let b = ap (address cycle rows p o) q in omega arith

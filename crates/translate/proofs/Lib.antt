@@ -1,9 +1,14 @@
+pub mod Counts
 pub mod Dates
+pub mod DueRows
+pub mod Earliest
 pub mod Fills
 pub mod Judging
+pub mod Kept
 pub mod Lawfulness
 pub mod Lengths
 pub mod Maps
-pub mod Puts
 pub mod Staged
+pub mod Whole
 pub mod Woken
+pub mod Writing

@@ -1,5 +1,6 @@
 pub mod Laws
 pub mod Ordered
+pub mod Programs
 pub mod Schedules
 pub mod Stores
 pub mod Translation

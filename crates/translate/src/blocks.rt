@@ -1,61 +1,49 @@
-ghost use Rattle.std.specs.Prelude.{◌≡◌, ℕ, ◌+◌, ◌-◌, ◌*◌, ◌<◌, ◌≤◌, List, length};
-ghost use Rattle.netcode.specs.declared.step.Step.{Step as NetStep};
-ghost use Rattle.translate.specs.Stores.{stored, Bounded};
-ghost use Rattle.translate.specs.Translation.{rows_length, rows_code, address, code_to};
+ghost use Rattle.std.specs.Prelude.{◌≡◌, ◌+◌, ◌<◌, ◌≤◌, length};
+ghost use Rattle.translate.specs.Stores.{stored};
+ghost use Rattle.translate.specs.Programs.{rows_length_of, block_of, code_of, Writes};
 
-use crate::put::{put_due, put_wait, wait_step};
-use crate::share::next_date;
+use crate::code::Code;
+use crate::program::Program;
 use netcode::Step;
-use sheet::Row;
 
-// The block of a date, of a program that begins at `base`, from `start` on.
-fn put_block(
-    rows: &[Row],
-    cycle: u32,
-    program: u32,
-    opening: usize,
-    date: u32,
-    steps: &mut [Step],
-    base: usize,
-    start: usize,
-) -> usize
-    requires bounded { Bounded cycle rows.now }
-    requires opened { opening ≤ 259 }
-    requires within { date < cycle }
-    requires begun { base ≤ start }
-    requires near { start ≤ base + 99000000 }
-    requires room { start + (rows_length cycle rows.now program date 0 (length rows.now) + 2) ≤ length steps.old }
-    ensures list { steps.new ≡ stored steps.old start (rows_code cycle rows.now program opening date 0 (length rows.now) (start - base)) }
-    ensures end { result ≡ start + (rows_length cycle rows.now program date 0 (length rows.now) + 2) }
-{
-    let mut at = start;
-    for i in 0..rows.len() {
-        at = put_due(rows, cycle, program, opening, date, i, steps, base, at);
+impl Program<'_> {
+    // The block of a date.
+    fn put_block(&self, code: &mut Code, date: u32)
+        requires within { date < self.now.cycle }
+        requires near { code.old.end ≤ 99000000 }
+        requires room { code.old.end + (rows_length_of self.now date + 2) ≤ length code.old.steps.now }
+        ensures { Writes code.old code.new (block_of self.now date code.old.end) }
+    {
+        for (number, row) in self.rows.iter().enumerate() {
+            if self.is_due(*row, date) {
+                self.put_row(code, date, number as u32, *row);
+            }
+        }
+        code.put_wait(self.wait_step(date, date + 1));
     }
-    let wait = wait_step(rows, cycle, program, opening, date, date + 1);
-    put_wait(steps, at, wait)
-}
 
-// The blocks of a program that begins at `base`, after an opening that is there already.
-pub fn put_blocks(
-    rows: &[Row],
-    cycle: u32,
-    program: u32,
-    opening: usize,
-    steps: &mut [Step],
-    base: usize,
-) -> usize
-    requires bounded { Bounded cycle rows.now }
-    requires opened { opening ≤ 259 }
-    requires room { base + address cycle rows.now program opening cycle ≤ length steps.old }
-    ensures list { (before old : List NetStep) → length before ≡ opening → steps.old ≡ stored old base before → steps.new ≡ stored old base (code_to cycle rows.now program before cycle) }
-    ensures end { result ≡ base + address cycle rows.now program opening cycle }
-{
-    let mut at = base + opening;
-    let mut next = next_date(rows, cycle, program, 0);
-    while next < cycle {
-        at = put_block(rows, cycle, program, opening, next, steps, base, at);
-        next = next_date(rows, cycle, program, next + 1);
+    // The whole program, in a list of steps that is still empty.
+    fn put_all(&self, code: &mut Code)
+        requires empty { code.old.end ≡ 0 }
+        requires room { length (code_of self.now) ≤ length code.old.steps.now }
+        ensures { Writes code.old code.new (code_of self.now) }
+    {
+        self.put_opening(code);
+        let mut from = 0;
+        while let Some(date) = self.date_in(from, self.cycle) {
+            self.put_block(code, date);
+            from = date + 1;
+        }
     }
-    at
+
+    // The same at the front of a list that was handed in, and how many steps it has.
+    pub fn put(&self, steps: &mut [Step]) -> usize
+        requires { length (code_of self.now) ≤ length steps.old }
+        ensures list { steps.new ≡ stored steps.old 0 (code_of self.now) }
+        ensures end { result ≡ length (code_of self.now) }
+    {
+        let mut code = Code { steps, end: 0 };
+        self.put_all(&mut code);
+        code.end
+    }
 }

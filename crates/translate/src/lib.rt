@@ -1,11 +1,14 @@
 #![tactic(auto)]
 
 mod blocks;
+mod code;
+mod each_date;
 mod fill;
 mod laws;
 mod opening;
+mod program;
 mod put;
-mod share;
+mod row;
 mod sizes;
 mod stage;
 mod worked;

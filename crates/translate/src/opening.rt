@@ -1,147 +1,62 @@
-ghost use Rattle.std.specs.Prelude.{◌≡◌, ℕ, ◌+◌, ◌<◌, ◌≤◌, List, [], ◌∷◌, ◌++◌, length};
-ghost use Rattle.netcode.specs.declared.step.Step.TheVariants.{Clear};
-ghost use Rattle.translate.specs.Stores.{stored, Bounded};
-ghost use Rattle.translate.specs.Translation.{keep_step, give_step, keeps_to, gives_to, preparation, opening as opening_code, opening_length, program_code};
+ghost use Rattle.std.specs.Prelude.{◌≡◌, ℕ, ◌+◌, ◌≤◌, length};
+ghost use Rattle.sheet.specs.declared.row.Keep.{Keep};
+ghost use Rattle.netcode.specs.declared.step.Step.{Step};
+ghost use Rattle.translate.specs.Programs.{kept_to, preparation_of, opening_length_of, opening_of, Writes};
+ghost use Rattle.translate.specs.Translation.{keeps_to};
 
-use crate::blocks::put_blocks;
-use crate::put::{put_wait, wait_step};
-use crate::share::{is_line, next_date, station};
-use crate::sizes::opening_length;
+use crate::code::Code;
+use crate::program::Program;
 use netcode::Step;
-use sheet::Row;
+use sheet::Keep;
 
-// The KEEP of row `number`, if it is a keep row of the program's station.
-fn put_keep(steps: &mut [Step], at: usize, program: u32, number: u32, row: Row) -> usize
-    requires { at + length (keep_step program number row) ≤ length steps.old }
-    ensures list { steps.new ≡ stored steps.old at (keep_step program number row) }
-    ensures end { result ≡ at + length (keep_step program number row) }
-{
-    match row {
-        Row::Keep(k) => {
-            if k.station == station(program) {
-                steps[at] = Step::Keep {
-                    variable: k.taken,
-                    cell: number,
-                };
-                at + 1
-            } else {
-                at
+impl Program<'_> {
+    // For each keep row of its station the step that `step` makes of the row's number and the row.
+    fn put_kept<F: Fn(u32, Keep) -> Step>(&self, code: &mut Code, step: F)
+        requires callable { F.IsAlwaysCallable step }
+        requires room { code.old.end + length (keeps_to self.now.rows.now self.now.number (length self.now.rows.now)) ≤ length code.old.steps.now }
+        ensures { (made : ℕ → Keep → Step) → ((n : ℕ) (k : Keep) (s : Step) → F.post step n k s → s ≡ made n k) → Writes code.old code.new (kept_to made self.now.rows.now self.now.number (length self.now.rows.now)) }
+    {
+        for (number, row) in self.rows.iter().enumerate() {
+            if let Some(keep) = self.kept(*row) {
+                code.put(step(number as u32, keep));
             }
         }
-        Row::Call(_) => at,
-        Row::Send(_) => at,
     }
-}
 
-// Its GIVE.
-fn put_give(steps: &mut [Step], at: usize, program: u32, number: u32, row: Row) -> usize
-    requires { at + length (give_step program number row) ≤ length steps.old }
-    ensures list { steps.new ≡ stored steps.old at (give_step program number row) }
-    ensures end { result ≡ at + length (give_step program number row) }
-{
-    match row {
-        Row::Keep(k) => {
-            if k.station == station(program) {
-                steps[at] = Step::Give {
-                    cell: number,
-                    variable: k.given,
-                    word: k.first,
-                };
-                at + 1
-            } else {
-                at
-            }
+    // What it does first: a work program keeps, empties and gives.
+    fn put_preparation(&self, code: &mut Code)
+        requires { code.old.end + length (preparation_of self.now) ≤ length code.old.steps.now }
+        ensures { Writes code.old code.new (preparation_of self.now) }
+    {
+        if self.is_line() {
+            return;
         }
-        Row::Call(_) => at,
-        Row::Send(_) => at,
+        self.put_kept(
+            code,
+            |number, keep| Step::Keep {
+                variable: keep.taken,
+                cell: number,
+            },
+        );
+        code.put(Step::Clear);
+        self.put_kept(
+            code,
+            |number, keep| Step::Give {
+                cell: number,
+                variable: keep.given,
+                word: keep.first,
+            },
+        );
     }
-}
 
-// The KEEPs of a program.
-fn put_keeps(rows: &[Row], program: u32, steps: &mut [Step], start: usize) -> usize
-    requires few { length rows.now ≤ 128 }
-    requires room { start + length (keeps_to rows.now program (length rows.now)) ≤ length steps.old }
-    ensures list { steps.new ≡ stored steps.old start (keeps_to rows.now program (length rows.now)) }
-    ensures end { result ≡ start + length (keeps_to rows.now program (length rows.now)) }
-{
-    let mut at = start;
-    for i in 0..rows.len() {
-        at = put_keep(steps, at, program, i as u32, rows[i]);
+    // Its opening: the preparation, and unless 0 is one of its dates the wait for the first one.
+    pub fn put_opening(&self, code: &mut Code)
+        requires { code.old.end + opening_length_of self.now ≤ length code.old.steps.now }
+        ensures { Writes code.old code.new (opening_of self.now) }
+    {
+        self.put_preparation(code);
+        if !self.has_date(0) {
+            code.put_wait(self.wait_step(0, 0));
+        }
     }
-    at
-}
-
-// Its GIVEs.
-fn put_gives(rows: &[Row], program: u32, steps: &mut [Step], start: usize) -> usize
-    requires few { length rows.now ≤ 128 }
-    requires room { start + length (gives_to rows.now program (length rows.now)) ≤ length steps.old }
-    ensures list { steps.new ≡ stored steps.old start (gives_to rows.now program (length rows.now)) }
-    ensures end { result ≡ start + length (gives_to rows.now program (length rows.now)) }
-{
-    let mut at = start;
-    for i in 0..rows.len() {
-        at = put_give(steps, at, program, i as u32, rows[i]);
-    }
-    at
-}
-
-// The KEEPs, CLEAR and the GIVEs.
-fn put_kept(rows: &[Row], program: u32, steps: &mut [Step], start: usize) -> usize
-    requires few { length rows.now ≤ 128 }
-    requires room { start + length (keeps_to rows.now program (length rows.now)) + 1 + length (gives_to rows.now program (length rows.now)) ≤ length steps.old }
-    ensures list { steps.new ≡ stored steps.old start (keeps_to rows.now program (length rows.now) ++ (Clear ∷ gives_to rows.now program (length rows.now))) }
-    ensures end { result ≡ start + length (keeps_to rows.now program (length rows.now)) + 1 + length (gives_to rows.now program (length rows.now)) }
-{
-    let at = put_keeps(rows, program, steps, start);
-    steps[at] = Step::Clear;
-    put_gives(rows, program, steps, at + 1)
-}
-
-// What a program does first: a work program keeps, empties and gives.
-fn put_preparation(rows: &[Row], program: u32, steps: &mut [Step], start: usize) -> usize
-    requires few { length rows.now ≤ 128 }
-    requires room { start + length (preparation rows.now program) ≤ length steps.old }
-    ensures list { steps.new ≡ stored steps.old start (preparation rows.now program) }
-    ensures end { result ≡ start + length (preparation rows.now program) }
-{
-    if is_line(program) {
-        start
-    } else {
-        put_kept(rows, program, steps, start)
-    }
-}
-
-// The opening of a program, which has so many steps.
-fn put_opening(
-    rows: &[Row],
-    cycle: u32,
-    program: u32,
-    opening: usize,
-    steps: &mut [Step],
-    start: usize,
-) -> usize
-    requires bounded { Bounded cycle rows.now }
-    requires opened { opening ≡ opening_length cycle rows.now program }
-    requires few { opening ≤ 259 }
-    requires room { start + opening ≤ length steps.old }
-    ensures { steps.new ≡ stored steps.old start (opening_code cycle rows.now program) }
-{
-    let at = put_preparation(rows, program, steps, start);
-    if next_date(rows, cycle, program, 0) == 0 {
-        return at;
-    }
-    let wait = wait_step(rows, cycle, program, opening, 0, 0);
-    put_wait(steps, at, wait)
-}
-
-// A whole program, from `base` on.
-pub fn put_program(rows: &[Row], cycle: u32, program: u32, steps: &mut [Step], base: usize) -> usize
-    requires bounded { Bounded cycle rows.now }
-    requires room { base + length (program_code cycle rows.now program) ≤ length steps.old }
-    ensures list { steps.new ≡ stored steps.old base (program_code cycle rows.now program) }
-    ensures end { result ≡ base + length (program_code cycle rows.now program) }
-{
-    let opening = opening_length(rows, cycle, program);
-    put_opening(rows, cycle, program, opening, steps, base);
-    put_blocks(rows, cycle, program, opening, steps, base)
 }

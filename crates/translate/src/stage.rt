@@ -24,11 +24,11 @@ fn lay(head: Head, rows: &[Row], steps: &mut [Step]) -> Result<Layout, Fault<Byt
     ensures layout { result ≡ (if nat_lt (length steps.old) (needed head rows.now) then Err (no_room head rows.now) else Ok (layout_for head rows.now)) }
     ensures list { steps.new ≡ (if nat_lt (length steps.old) (needed head rows.now) then steps.old else laid_on (steps_of (translated head rows.now)) steps.old) }
 {
-    let count = all_lengths(rows, head.cycle, head.stations);
+    let count = all_lengths(head, rows);
     if steps.len() < count {
         return Err(too_short(count as u64));
     }
-    let lengths = put_programs(rows, head.cycle, head.stations, steps);
+    let lengths = put_programs(head, rows, steps);
     Ok(Layout {
         stations: head.stations,
         lengths,

@@ -5,17 +5,17 @@ use Rattle.translate.specs.Translation.{programs_from}
 use Rattle.translate.proofs.Fills.{length_more, length_none}
 use Rattle.translate.proofs.fill.all_lengths.Goals as goal
 
-pub loop-program-init : goal.loop-program-init
-loop-program-init c =
-    let z : program_count c.args.stations - 0 ≡ program_count c.args.stations = omega arith in
-    let e = ap (λ (k : ℕ). length (steps_of (programs_from c.args.cycle c.args.rows.now 0 k))) z in
+pub loop-number-init : goal.loop-number-init
+loop-number-init c =
+    let z : program_count c.args.head.stations - 0 ≡ program_count c.args.head.stations = omega arith in
+    let e = ap (λ (k : ℕ). length (steps_of (programs_from c.args.head.cycle c.args.rows.now 0 k))) z in
     (omega arith, omega arith)
 
-pub loop-program-preserved : goal.loop-program-preserved
-loop-program-preserved c =
-    let l = c.loop-program in
-    let m = length_more c.args.cycle c.args.rows.now l.program (program_count c.args.stations) (omega arith) in
-    let k = c.program_length-sum.ensures in
+pub loop-number-preserved : goal.loop-number-preserved
+loop-number-preserved c =
+    let l = c.loop-number in
+    let m = length_more c.args.head.cycle c.args.rows.now l.number (program_count c.args.head.stations) (omega arith) in
+    let k = c.length-sum.ensures in
     let e = k.length in
     let f = k.few in
     let s = c.requires.short in
@@ -25,7 +25,7 @@ loop-program-preserved c =
 
 pub returns : goal.returns
 returns c =
-    let l = c.loop-program in
-    let m = length_none c.args.cycle c.args.rows.now l.program (program_count c.args.stations) (omega arith) in
+    let l = c.loop-number in
+    let m = length_none c.args.head.cycle c.args.rows.now l.number (program_count c.args.head.stations) (omega arith) in
     let i0 = l.invariant.0 in
     omega arith

@@ -1,0 +1,106 @@
+-- The first of a program's dates in a span, as the least of those of its rows.
+use Rattle.std.proofs.Common.{◌≡◌, ℕ, zero, suc, ◌<◌, ◌≤◌, min, Bool, true, false, cond, ◌&&◌, ltb, leb, ◌⊎◌, List, [], ◌∷◌, ◌++◌, map, filter, length, take, Option, Some, None, MatchOption, IfSome, sym, refl, ap, ◌∙◌, inl, inr, append-nil, add-one, arith}
+use Rattle.std.specs.List.{reduce, fold}
+use Rattle.std.proofs.lemmas.Bool.{cases_lt, lt-ltb, le-ltb}
+use Rattle.std.proofs.lemmas.List.{take_more, map-append}
+use Rattle.std.proofs.Math.Seq.{take-length}
+use Rattle.std.proofs.lemmas.List.Elements.{filter-append}
+use Rattle.std.proofs.lemmas.List.Sums.{fold-append}
+use Rattle.sheet.specs.declared.row.Row.{Row}
+use Rattle.sheet.specs.Rows.{row_at, no_row}
+use Rattle.translate.specs.Translation.{belongs, date_of, is_date, first_among, first_date}
+use Rattle.translate.proofs.Dates.{first-none, first_more, first-date}
+
+least-of-none : (xs : List ℕ) (y : ℕ) → reduce min xs ≡ None → reduce min (xs ++ y ∷ []) ≡ Some y
+least-of-none [] y e = refl
+least-of-none (x ∷ xs) y e = cc
+
+least-of-more : (xs : List ℕ) (y m : ℕ) → reduce min xs ≡ Some m → reduce min (xs ++ y ∷ []) ≡ Some (min m y)
+least-of-more [] y m e = cc
+least-of-more (x ∷ xs) y m e = let z : fold min x xs ≡ m = cc in ap Some (fold-append min x xs (y ∷ []) ∙ ap (λ (k : ℕ). min k y) z)
+
+-- A number, if it lies before `until`.
+abbrev pub before : ℕ → ℕ → Option ℕ
+before until n = cond (ltb n until) (Some n) None
+
+before-some : (until n : ℕ) → n < until → before until n ≡ Some n
+before-some until n l = rw (lt-ltb n until l)
+
+before-none : (until n : ℕ) → until ≤ n → before until n ≡ None
+before-none until n l = rw (le-ltb n until l)
+
+abbrev pub within : ℕ → ℕ → ℕ → Bool
+within from until d = leb from d && ltb d until
+
+one-more : (from until D F : ℕ) (b : Bool) (xs : List ℕ) → reduce min xs ≡ before until F
+    → reduce min (xs ++ filter (within from until) (cond b (D ∷ []) [])) ≡ before until (cond (b && leb from D) (min D F) F)
+one-more from until D F false xs e = rw (append-nil xs) e
+one-more from until D F true xs e = late (leb from D)
+  where
+    late : (l : Bool) → reduce min (xs ++ cond (l && ltb D until) (D ∷ []) []) ≡ before until (cond l (min D F) F)
+    late false = rw (append-nil xs) e
+    late true = go (cases_lt D until) (cases_lt F until)
+      where
+        go : (D < until) ⊎ (until ≤ D) → (F < until) ⊎ (until ≤ F) → reduce min (xs ++ cond (ltb D until) (D ∷ []) []) ≡ before until (min D F)
+        go (inl l) (inl m) = rw (lt-ltb D until l) (least-of-more xs D F (e ∙ before-some until F m) ∙ ap Some (omega arith) ∙ sym (before-some until (min D F) (omega arith)))
+        go (inl l) (inr m) = let z : min D F ≡ D = omega arith in rw (lt-ltb D until l) (least-of-none xs D (e ∙ before-none until F m) ∙ sym (ap (before until) z ∙ before-some until D l))
+        go (inr l) (inl m) = let z : min D F ≡ F = omega arith in rw (le-ltb D until l, append-nil xs) (e ∙ sym (ap (before until) z))
+        go (inr l) (inr m) = rw (le-ltb D until l, append-nil xs) (e ∙ before-none until F m ∙ sym (before-none until (min D F) (omega arith)))
+
+module _ (cycle : ℕ) (rows : List Row) (p from until : ℕ) where
+  one-row : (row : Row) (b : Bool) → map date_of (cond b (row ∷ []) []) ≡ cond b (date_of row ∷ []) []
+  one-row row true = refl
+  one-row row false = refl
+
+  least-so-far : (n : ℕ) → until ≤ cycle → n ≤ length rows → reduce min (filter (within from until) (map date_of (filter (belongs p) (take n rows)))) ≡ before until (first_among cycle rows p from n)
+  least-so-far zero u l = sym (ap (before until) (first-none cycle rows p from) ∙ before-none until cycle u)
+  least-so-far (suc n) u l =
+      let row = row_at rows n in
+      let t : take (suc n) rows ≡ take n rows ++ row ∷ [] = ap (λ (k : ℕ). take k rows) (sym (add-one n)) ∙ take_more rows n no_row (omega arith) in
+      ap (λ (xs : List Row). reduce min (filter (within from until) (map date_of (filter (belongs p) xs)))) t
+      ∙ ap (λ (xs : List Row). reduce min (filter (within from until) (map date_of xs))) (filter-append (belongs p) (take n rows) (row ∷ []))
+      ∙ ap (λ (xs : List ℕ). reduce min (filter (within from until) xs)) (map-append date_of (filter (belongs p) (take n rows)) (cond (belongs p row) (row ∷ []) []))
+      ∙ ap (reduce min) (filter-append (within from until) (map date_of (filter (belongs p) (take n rows))) (map date_of (cond (belongs p row) (row ∷ []) [])))
+      ∙ ap (λ (xs : List ℕ). reduce min (filter (within from until) (map date_of (filter (belongs p) (take n rows))) ++ filter (within from until) xs)) (one-row row (belongs p row))
+      ∙ one-more from until (date_of row) (first_among cycle rows p from n) (belongs p row) (filter (within from until) (map date_of (filter (belongs p) (take n rows)))) (least-so-far n u (omega arith))
+      ∙ ap (before until) (sym (first_more cycle rows p from n))
+
+  pub least-date : until ≤ cycle → reduce min (filter (within from until) (map date_of (filter (belongs p) rows))) ≡ before until (first_date cycle rows p from)
+  least-date u =
+      ap (λ (xs : List Row). reduce min (filter (within from until) (map date_of (filter (belongs p) xs)))) (sym (take-length rows))
+      ∙ least-so-far (length rows) u (omega arith)
+
+-- What is known of the first date in a span, where there is one and where there is none.
+module _ (cycle : ℕ) (rows : List Row) (p from until : ℕ) where
+  pub found : (r : Option ℕ) → r ≡ before until (first_date cycle rows p from) → MatchOption r (until ≤ first_date cycle rows p from) (λ date. date ≡ first_date cycle rows p from)
+  found r e = go r e (cases_lt (first_date cycle rows p from) until)
+    where
+      go : (r : Option ℕ) → r ≡ before until (first_date cycle rows p from) → (first_date cycle rows p from < until) ⊎ (until ≤ first_date cycle rows p from)
+          → MatchOption r (until ≤ first_date cycle rows p from) (λ date. date ≡ first_date cycle rows p from)
+      go None e (inl l) = absurd (unequal (e ∙ before-some until _ l))
+        where
+          unequal : None ≡ Some (first_date cycle rows p from) → ⊥
+          unequal q = cc
+      go None e (inr l) = l
+      go (Some d) e (inl l) = same (e ∙ before-some until _ l)
+        where
+          same : Some d ≡ Some (first_date cycle rows p from) → d ≡ first_date cycle rows p from
+          same q = cc
+      go (Some d) e (inr l) = absurd (unequal (e ∙ before-none until _ l))
+        where
+          unequal : Some d ≡ None → ⊥
+          unequal q = cc
+
+  pub found-own : (r : Option ℕ) → until ≤ cycle → r ≡ before until (first_date cycle rows p from) → IfSome r (λ date. is_date cycle rows p date ≡ true)
+  found-own None u e = tt
+  found-own (Some d) u e = go (cases_lt (first_date cycle rows p from) until)
+    where
+      go : (first_date cycle rows p from < until) ⊎ (until ≤ first_date cycle rows p from) → is_date cycle rows p d ≡ true
+      go (inl l) = same (e ∙ before-some until _ l)
+        where
+          same : Some d ≡ Some (first_date cycle rows p from) → is_date cycle rows p d ≡ true
+          same q = let z : d ≡ first_date cycle rows p from = cc in ap (is_date cycle rows p) z ∙ first-date cycle rows p from (omega arith)
+      go (inr l) = absurd (unequal (e ∙ before-none until _ l))
+        where
+          unequal : Some d ≡ None → ⊥
+          unequal q = cc
