@@ -2,6 +2,9 @@
 
 // Runs the program files in the file `cases`: each is a program file, a byte for the plant (0 Reckoner, 1 Panel, 2 Script),
 // a script, and requests. A line for each: the replies, joined by `|`; or the refusal of the file or of its making.
+ghost use Rattle.std.specs.Prelude.{◌≤◌, length};
+ghost use Rattle.std.specs.Iterator.{at_most};
+
 use bench::Run;
 use cases::next_part;
 use fault::{Fault, Place, TickPlace};
@@ -14,6 +17,12 @@ use text::RefusedLine;
 
 fn print_fault(rt: &HostRuntime, fault: Fault<Place>) -> anyhow::Result<()> {
     rt.print(RefusedLine(fault))?;
+    Ok(())
+}
+
+fn print_refusal(rt: &HostRuntime, fault: Fault<Place>) -> anyhow::Result<()> {
+    print_fault(rt, fault)?;
+    rt.println("")?;
     Ok(())
 }
 
@@ -45,39 +54,90 @@ fn print_reply(rt: &HostRuntime, request: Request, reply: Reply) -> anyhow::Resu
     Ok(())
 }
 
-// Four bytes as a number, the low one first; 0 where there are fewer.
-fn number(bytes: &[u8]) -> u32 {
+// The number that four bytes tell, the low one first, and what follows them; 0 and nothing where there are fewer.
+fn number(bytes: &[u8]) -> (u32, &[u8])
+    ensures { length result.1.now ≤ length bytes.now }
+{
     match bytes {
-        [a, b, c, d, ..] => u32::from_le_bytes([*a, *b, *c, *d]),
-        _ => 0,
+        [a, b, c, d, rest @ ..] => (u32::from_le_bytes([*a, *b, *c, *d]), rest),
+        _ => (0, &[]),
     }
 }
 
-// The bytes after the first `n`.
-fn past(bytes: &[u8], n: usize) -> &[u8] {
-    if n <= bytes.len() {
-        let (_, rest) = bytes.split_at(n);
-        rest
-    } else {
-        bytes.split_at(0).0
+// The requests of a case, one after the other.
+#[derive(Drop)]
+struct Requests<'a>(&'a [u8]);
+
+impl Iterator for Requests<'_> {
+    type Item = Request;
+
+    ghost remaining = { λ s. at_most (length s.0.now) };
+
+    fn next(&mut self) -> Option<Request> {
+        let (kind, rest) = self.0.split_first()?;
+        let (first, after) = number(rest);
+        let (request, rest) = match *kind {
+            0 => (Request::Tick, rest),
+            1 => (Request::Rehearse(first), after),
+            2 => {
+                let station = first;
+                let (variable, after) = number(after);
+                (Request::WordAt { station, variable }, after)
+            }
+            _ => (Request::MarkAt { row: first }, after),
+        };
+        self.0 = rest;
+        Some(request)
     }
 }
 
-// The next request, and how many bytes it takes.
-fn next_request(bytes: &[u8]) -> Option<(Request, usize)> {
-    let kind = *bytes.first()?;
-    let rest = past(bytes, 1);
-    match kind {
-        0 => Some((Request::Tick, 1)),
-        1 => Some((Request::Rehearse(number(rest)), 5)),
-        2 => Some((
-            Request::WordAt {
-                station: number(rest),
-                variable: number(past(rest, 4)),
-            },
-            9,
-        )),
-        _ => Some((Request::MarkAt { row: number(rest) }, 5)),
+// What a run is made above.
+#[derive(Clone, Copy)]
+enum PlantKind {
+    Reckoner,
+    Panel,
+    Script,
+}
+
+impl From<u8> for PlantKind {
+    fn from(byte: u8) -> PlantKind {
+        match byte {
+            0 => PlantKind::Reckoner,
+            1 => PlantKind::Panel,
+            _ => PlantKind::Script,
+        }
+    }
+}
+
+#[derive(Clone, Copy)]
+struct Case<'a> {
+    file: &'a [u8],
+    plant: PlantKind,
+    script: &'a [u8],
+    requests: &'a [u8],
+}
+
+// The cases, one after the other, up to one that is cut short.
+#[derive(Drop)]
+struct Cases<'a>(&'a [u8]);
+
+impl<'a> Iterator for Cases<'a> {
+    type Item = Case<'a>;
+
+    ghost remaining = { λ s. at_most (length s.0.now) };
+
+    fn next(&mut self) -> Option<Case<'a>> {
+        let (file, rest) = next_part(self.0)?;
+        let (plant, rest) = rest.split_first()?;
+        let (script, rest) = next_part(rest)?;
+        let (requests, rest) = next_part(rest)?;
+        self.0 = rest;
+        Some(Case {
+            file,
+            plant: PlantKind::from(*plant),
+            script,
+            requests,
+        })
     }
 }
 
@@ -87,96 +147,44 @@ fn serve_case<P: Plant>(
     plant: &mut P,
     requests: &[u8],
 ) -> anyhow::Result<()> {
-    let mut rest = requests;
-    for i in 0..requests.len() {
-        let Some((request, size)) = next_request(rest) else {
-            break;
-        };
+    for (i, request) in Requests(requests).enumerate() {
         if i > 0 {
             rt.print("|")?;
         }
         let reply = run.serve(plant, request);
         print_reply(rt, request, reply)?;
-        rest = past(rest, size);
-        if rest.is_empty() {
-            break;
-        }
     }
     rt.println("")?;
     Ok(())
 }
 
-fn with_plant(
-    rt: &HostRuntime,
-    run: Run,
-    plant: u8,
-    script: &[u8],
-    requests: &[u8],
-) -> anyhow::Result<()> {
-    match plant {
-        0 => serve_case(rt, run, &mut Reckoner, requests),
-        1 => serve_case(rt, run, &mut Panel::new(), requests),
-        _ => match Script::read(script) {
-            Ok(mut words) => serve_case(rt, run, &mut words, requests),
-            Err(fault) => {
-                print_fault(rt, fault.carried())?;
-                rt.println("")?;
-                Ok(())
-            }
+fn with_plant(rt: &HostRuntime, run: Run, case: Case) -> anyhow::Result<()> {
+    match case.plant {
+        PlantKind::Reckoner => serve_case(rt, run, &mut Reckoner, case.requests),
+        PlantKind::Panel => serve_case(rt, run, &mut Panel::new(), case.requests),
+        PlantKind::Script => match Script::read(case.script) {
+            Ok(mut words) => serve_case(rt, run, &mut words, case.requests),
+            Err(fault) => print_refusal(rt, fault.carried()),
         },
     }
 }
 
-fn run_case(
-    rt: &HostRuntime,
-    file: &[u8],
-    plant: u8,
-    script: &[u8],
-    requests: &[u8],
-) -> anyhow::Result<()> {
+fn run_case(rt: &HostRuntime, case: Case) -> anyhow::Result<()> {
     let mut steps = vec![in rt.alloc(); Step::Halt; 32768]?;
-    let layout = match programs::read(file, steps.as_mut_slice()) {
+    let layout = match programs::read(case.file, steps.as_mut_slice()) {
         Ok(layout) => layout,
-        Err(fault) => {
-            print_fault(rt, fault.carried())?;
-            rt.println("")?;
-            return Ok(());
-        }
+        Err(fault) => return print_refusal(rt, fault.carried()),
     };
     match Run::make(layout, steps) {
-        Ok(run) => with_plant(rt, run, plant, script, requests),
-        Err((_, _, fault)) => {
-            print_fault(rt, fault.carried())?;
-            rt.println("")?;
-            Ok(())
-        }
+        Ok(run) => with_plant(rt, run, case),
+        Err((_, _, fault)) => print_refusal(rt, fault.carried()),
     }
-}
-
-// One case, and what follows it.
-fn next_case<'a>(rt: &HostRuntime, cases: &'a [u8]) -> anyhow::Result<&'a [u8]> {
-    let Some((file, rest)) = next_part(cases) else {
-        return Ok(past(cases, cases.len()));
-    };
-    let plant = rest.first().copied().unwrap_or(0);
-    let Some((script, rest)) = next_part(past(rest, 1)) else {
-        return Ok(past(cases, cases.len()));
-    };
-    let Some((requests, rest)) = next_part(rest) else {
-        return Ok(past(cases, cases.len()));
-    };
-    run_case(rt, file, plant, script, requests)?;
-    Ok(rest)
 }
 
 fn run(rt: &HostRuntime) -> anyhow::Result<()> {
     let cases = fs::read(rt, "cases")?;
-    let mut rest = cases.as_slice();
-    for _ in 0..cases.len() {
-        if rest.is_empty() {
-            return Ok(());
-        }
-        rest = next_case(rt, rest)?;
+    for case in Cases(cases.as_slice()) {
+        run_case(rt, case)?;
     }
     Ok(())
 }

@@ -1,5 +1,5 @@
 use fault::{BytesPlace, Fault, Offset, Place, Refusal, RowPlace};
-use sheet::{Keep, Row, read, write};
+use sheet::{Row, read, write};
 use std::test::Fail;
 use wire::{Reader, number_bytes, put_numbers};
 
@@ -39,19 +39,10 @@ fn numbers_are_written(rt: HostRuntime) {
     assert!(rt; put_numbers(&mut out, 3, &[300]) == Err(2));
 }
 
-fn blank() -> Row {
-    Row::Keep(Keep {
-        station: 0,
-        taken: 0,
-        given: 0,
-        first: 0,
-    })
-}
-
 #[test]
 fn sheets_are_read_and_written(rt: HostRuntime) -> Result<(), Fail> {
     let bytes = [1, 1, 2, 5, 1, 0, 0, 1, 0, 7];
-    let mut rows = [blank(); 2];
+    let mut rows = [Row::default(); 2];
     let head = match read(&bytes, &mut rows) {
         Ok(head) => head,
         Err(_) => return Err(Fail::new("refused")),
@@ -76,7 +67,7 @@ fn sheets_are_read_and_written(rt: HostRuntime) -> Result<(), Fail> {
 
 #[test]
 fn bad_bytes_are_refused(rt: HostRuntime) {
-    let mut rows = [blank(); 1];
+    let mut rows = [Row::default(); 1];
     let early = read(&[1, 1, 2, 5], &mut rows);
     assert!(rt;
         matches!(

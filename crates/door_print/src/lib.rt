@@ -8,18 +8,9 @@ use netcode::Step;
 use plant::Script;
 use rehearsal::run_sheet;
 use semantics::{Reply, Request};
-use sheet::{Keep, Row};
+use sheet::Row;
 use stages::{Accepted, Draft};
 use text::RefusedLine;
-
-fn blank() -> Row {
-    Row::Keep(Keep {
-        station: 0,
-        taken: 0,
-        given: 0,
-        first: 0,
-    })
-}
 
 fn print_refusal(rt: &HostRuntime, fault: Fault<Place>) -> anyhow::Result<()> {
     rt.println(RefusedLine(fault))?;
@@ -65,7 +56,7 @@ pub fn print_rehearsal(
     script: &[u8],
     between: &str,
 ) -> anyhow::Result<()> {
-    let rows = vec![in rt.alloc(); blank(); 128]?;
+    let rows = vec![in rt.alloc(); Row::default(); 128]?;
     let draft = match Draft::read(table, rows) {
         Ok(draft) => draft,
         Err((_, fault)) => return print_refusal(rt, fault.carried()),

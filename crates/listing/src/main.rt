@@ -3,23 +3,13 @@
 // Prints the sheet in the file `table` for a person: the head, a line for each row, what was found, and the programs of
 // an accepted sheet with a line for each step.
 use fault::{Fault, Place};
-use netcode::{Layout, Step, line_program, program_count, station_of};
-use sheet::{Keep, Row};
+use netcode::{Layout, Step, line_program, station_of};
+use sheet::Row;
 use stages::{Accepted, Draft};
 use std::fs;
-use step_text::{LineProgram, StepLine, WorkProgram};
+use step_text::{ProgramLine, Role, StepLine};
 use text::{FoundLine, HeadLine, RefusedLine, RowLine};
 use translate::translate;
-
-// A row that says nothing, to fill a list with.
-fn blank() -> Row {
-    Row::Keep(Keep {
-        station: 0,
-        taken: 0,
-        given: 0,
-        first: 0,
-    })
-}
 
 fn print_rows(rt: &HostRuntime, rows: &[Row]) -> anyhow::Result<()> {
     for (number, row) in rows.iter().enumerate() {
@@ -44,37 +34,23 @@ fn print_steps(rt: &HostRuntime, steps: &[Step]) -> anyhow::Result<()> {
     Ok(())
 }
 
-// Whether a program is its station's line program.
-fn is_line(program: usize, station: usize) -> bool {
-    match u32::try_from(station) {
-        Ok(station) => program == line_program(station),
-        Err(_) => false,
-    }
-}
-
 // The line above a program.
-fn print_heading(rt: &HostRuntime, program: usize) -> anyhow::Result<()> {
+fn heading(program: usize) -> ProgramLine {
     let station = station_of(program);
-    if is_line(program, station) {
-        rt.println(LineProgram { program, station })?;
-    } else {
-        rt.println(WorkProgram { program, station })?;
+    let is_line = u32::try_from(station).is_ok_and(|station| program == line_program(station));
+    let role = if is_line { Role::Line } else { Role::Work };
+    ProgramLine {
+        program,
+        station,
+        role,
     }
-    Ok(())
 }
 
 // All programs, one after the other.
 fn print_programs(rt: &HostRuntime, layout: &Layout, steps: &[Step]) -> anyhow::Result<()> {
-    let mut rest = steps;
-    for program in 0..program_count(layout.stations) {
-        let length = layout.lengths[program];
-        if rest.len() < length {
-            return Ok(());
-        }
-        let (own, others) = rest.split_at(length);
-        print_heading(rt, program)?;
+    for (program, own) in layout.programs(steps).enumerate() {
+        rt.println(heading(program))?;
         print_steps(rt, own)?;
-        rest = others;
     }
     Ok(())
 }
@@ -88,26 +64,21 @@ fn print_accepted(rt: &HostRuntime, sheet: Accepted) -> anyhow::Result<()> {
     }
 }
 
-fn print_verdict(rt: &HostRuntime, draft: Draft) -> anyhow::Result<()> {
+fn list(rt: &HostRuntime, bytes: &[u8]) -> anyhow::Result<()> {
+    let rows = vec![in rt.alloc(); Row::default(); 128]?;
+    let draft = match Draft::read(bytes, rows) {
+        Ok(draft) => draft,
+        Err((_, fault)) => return print_refusal(rt, fault.carried()),
+    };
+    let head = draft.head();
+    rt.println(HeadLine(head))?;
+    print_rows(rt, draft.rows())?;
+    rt.println(FoundLine {
+        rows: head.rows,
+        bytes: bytes.len(),
+    })?;
     match draft.accept() {
         Ok(sheet) => print_accepted(rt, sheet),
-        Err((_, fault)) => print_refusal(rt, fault.carried()),
-    }
-}
-
-fn list(rt: &HostRuntime, bytes: &[u8]) -> anyhow::Result<()> {
-    let rows = vec![in rt.alloc(); blank(); 128]?;
-    match Draft::read(bytes, rows) {
-        Ok(draft) => {
-            let head = draft.head();
-            rt.println(HeadLine(head))?;
-            print_rows(rt, draft.rows())?;
-            rt.println(FoundLine {
-                rows: head.rows,
-                bytes: bytes.len(),
-            })?;
-            print_verdict(rt, draft)
-        }
         Err((_, fault)) => print_refusal(rt, fault.carried()),
     }
 }

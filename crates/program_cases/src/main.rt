@@ -2,25 +2,16 @@
 
 // Translates the sheets in the file `cases`, each of which is followed by the program file expected of it. A line for
 // each: `same`, or `differs`.
-use cases::next_part;
+use cases::Pairs;
 use netcode::Step;
-use sheet::{Keep, Row};
+use sheet::Row;
 use stages::Draft;
 use std::fs;
 use translate::translate;
 
-fn blank() -> Row {
-    Row::Keep(Keep {
-        station: 0,
-        taken: 0,
-        given: 0,
-        first: 0,
-    })
-}
-
 // Whether the sheet is accepted, and its programs are written as just these bytes.
 fn same(rt: &HostRuntime, table: &[u8], file: &[u8]) -> anyhow::Result<bool> {
-    let rows = vec![in rt.alloc(); blank(); 128]?;
+    let rows = vec![in rt.alloc(); Row::default(); 128]?;
     let Ok(draft) = Draft::read(table, rows) else {
         return Ok(false);
     };
@@ -32,28 +23,18 @@ fn same(rt: &HostRuntime, table: &[u8], file: &[u8]) -> anyhow::Result<bool> {
         return Ok(false);
     };
     let mut out = vec![in rt.alloc(); 0u8; 65536]?;
-    match programs::write(&translated.layout(), translated.steps(), out.as_mut_slice()) {
-        Ok(end) => Ok(end == file.len() && out.as_slice().starts_with(file)),
-        Err(_) => Ok(false),
-    }
+    let end = programs::write(&translated.layout(), translated.steps(), out.as_mut_slice());
+    Ok(end.is_ok_and(|end| end == file.len()) && out.as_slice().starts_with(file))
 }
 
 fn run(rt: &HostRuntime) -> anyhow::Result<()> {
     let cases = fs::read(rt, "cases")?;
-    let mut rest = cases.as_slice();
-    for _ in 0..cases.len() {
-        let Some((table, after)) = next_part(rest) else {
-            return Ok(());
-        };
-        let Some((file, others)) = next_part(after) else {
-            return Ok(());
-        };
+    for (table, file) in Pairs(cases.as_slice()) {
         rt.println(if same(rt, table, file)? {
             "same"
         } else {
             "differs"
         })?;
-        rest = others;
     }
     Ok(())
 }

@@ -2,7 +2,7 @@ use netcode::Step;
 use plant::Script;
 use rehearsal::run_sheet;
 use semantics::{Reply, Request};
-use sheet::{Keep, Row};
+use sheet::Row;
 use stages::{Accepted, Draft};
 use std::test::Fail;
 
@@ -13,13 +13,7 @@ const TABLE: [u8; 32] = [
 ];
 
 fn accepted(rt: &HostRuntime) -> Result<Accepted, Fail> {
-    let blank = Row::Keep(Keep {
-        station: 0,
-        taken: 0,
-        given: 0,
-        first: 0,
-    });
-    let rows = vec![in rt.alloc(); blank; 3]?;
+    let rows = vec![in rt.alloc(); Row::default(); 3]?;
     let Ok(draft) = Draft::read(&TABLE, rows) else {
         return Err(Fail::new("not read"));
     };

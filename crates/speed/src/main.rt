@@ -71,21 +71,11 @@ fn sparse_row(n: u32) -> Row {
     }
 }
 
-fn rows_of(kind: u8, n: u32) -> Row {
-    if kind == 0 {
-        dense_row(n)
-    } else {
-        sparse_row(n)
-    }
-}
-
-fn measure(rt: &HostRuntime, head: Head, kind: u8) -> anyhow::Result<()> {
-    let mut rows = vec![in rt.alloc(); rows_of(kind, 0); 128]?;
-    for n in 0..128u32 {
-        if (n as usize) < rows.len() {
-            rows[n as usize] = rows_of(kind, n);
-        }
-    }
+// Rehearses a sheet with this head whose row of each number the rule gives.
+fn measure<F: Fn(u32) -> Row>(rt: &HostRuntime, head: Head, row: F) -> anyhow::Result<()>
+    requires { F.IsAlwaysCallable row }
+{
+    let rows = (0..128u32).map(row).collect(rt.alloc())?;
     let Ok(draft) = Draft::of(head, rows) else {
         return Err(anyhow!("no draft"));
     };
@@ -111,23 +101,22 @@ fn measure(rt: &HostRuntime, head: Head, kind: u8) -> anyhow::Result<()> {
     Ok(())
 }
 
+fn head(cycle: u32, rows: u32) -> Head {
+    Head {
+        stations: 8,
+        variables: 64,
+        cycle,
+        rows,
+    }
+}
+
 fn run(rt: &HostRuntime) -> anyhow::Result<()> {
-    for (i, word) in env::args(rt)?.enumerate() {
-        if i == 0 {
-            continue;
+    for word in env::args(rt)?.skip(1) {
+        match word.as_str() {
+            "dense" => measure(rt, head(8, 128), dense_row)?,
+            "sparse" => measure(rt, head(65535, 128), sparse_row)?,
+            _ => measure(rt, head(65535, 0), sparse_row)?,
         }
-        let (cycle, rows, kind) = match word.as_str() {
-            "dense" => (8, 128, 0),
-            "sparse" => (65535, 128, 1),
-            _ => (65535, 0, 1),
-        };
-        let head = Head {
-            stations: 8,
-            variables: 64,
-            cycle,
-            rows,
-        };
-        measure(rt, head, kind)?;
     }
     Ok(())
 }

@@ -2,4 +2,4 @@
 
 mod step;
 
-pub use step::{LineProgram, StepLine, WorkProgram};
+pub use step::{ProgramLine, Role, StepLine};

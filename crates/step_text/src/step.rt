@@ -1,10 +1,10 @@
 ghost use Rattle.std.specs.Prelude.{Some};
-ghost use Rattle.step_text.specs.Steps.{does_text, step_text, work_text, line_text};
+ghost use Rattle.step_text.specs.Steps.{does_text, step_text, program_text};
 
 use netcode::Step;
 use sheet::Relation;
 use std::fmt;
-use text::{Five, InputsText, Three};
+use text::{Column, InputsText};
 
 // What a step does.
 #[derive(Clone, Copy)]
@@ -21,16 +21,16 @@ impl fmt::Display for Does {
                 word,
                 address,
             } => {
-                let v = Three(u64::from(variable));
-                let a = Three(u64::from(address));
+                let v = Column::<3>(u64::from(variable));
+                let a = Column::<3>(u64::from(address));
                 match relation {
                     Relation::Equal => write!(f, "TEST     variable {v}={word}, else to {a}"),
                     Relation::Unequal => write!(f, "TEST     variable {v}#{word}, else to {a}"),
                 }
             }
             Step::Future { ticks, address } => {
-                let t = Five(u64::from(ticks));
-                let a = Three(u64::from(address));
+                let t = Column::<5>(u64::from(ticks));
+                let a = Column::<3>(u64::from(address));
                 write!(f, "FUTURE   in {t} ticks at {a}")
             }
             Step::Halt => write!(f, "HALT"),
@@ -41,10 +41,10 @@ impl fmt::Display for Does {
                 output,
                 duration,
             } => {
-                let r = Three(u64::from(row));
-                let w = Three(u64::from(work));
+                let r = Column::<3>(u64::from(row));
+                let w = Column::<3>(u64::from(work));
                 let i = InputsText(inputs);
-                let o = Three(u64::from(output));
+                let o = Column::<3>(u64::from(output));
                 write!(
                     f,
                     "CALL     row {r}, work {w} {i} into {o} for {duration} ticks"
@@ -55,16 +55,16 @@ impl fmt::Display for Does {
                 variable,
                 duration,
             } => {
-                let r = Three(u64::from(row));
-                let v = Three(u64::from(variable));
+                let r = Column::<3>(u64::from(row));
+                let v = Column::<3>(u64::from(variable));
                 write!(f, "SEND     row {r}, variable {v} for {duration} ticks")
             }
             Step::Receive { variable, duration } => {
-                let v = Three(u64::from(variable));
+                let v = Column::<3>(u64::from(variable));
                 write!(f, "RECEIVE  variable {v} for {duration} ticks")
             }
             Step::Keep { variable, cell } => {
-                let v = Three(u64::from(variable));
+                let v = Column::<3>(u64::from(variable));
                 write!(f, "KEEP     variable {v} in cell {cell}")
             }
             Step::Clear => write!(f, "CLEAR"),
@@ -73,7 +73,7 @@ impl fmt::Display for Does {
                 variable,
                 word,
             } => {
-                let v = Three(u64::from(variable));
+                let v = Column::<3>(u64::from(variable));
                 write!(f, "GIVE     cell {cell} as variable {v}, at first {word}")
             }
         }
@@ -91,41 +91,36 @@ impl fmt::Display for StepLine {
     ghost output = { λ x. Some (step_text x.address x.step) };
 
     fn fmt<W: fmt::Write>(&self, f: &mut fmt::Formatter<W>) -> fmt::Result {
-        let address = Five(self.address as u64);
+        let address = Column::<5>(self.address as u64);
         let does = Does(self.step);
         write!(f, "{address}  {does}")
     }
 }
 
-// The line above a work program, and above a line program.
-#[derive(Clone, Copy)]
-pub struct WorkProgram {
-    pub program: usize,
-    pub station: usize,
+// Which of its station's two programs a program is.
+#[derive(Clone, Copy, PartialEq)]
+pub enum Role {
+    Work,
+    Line,
 }
 
-impl fmt::Display for WorkProgram {
-    ghost output = { λ x. Some (work_text x.program x.station) };
+// The line above a program.
+#[derive(Clone, Copy)]
+pub struct ProgramLine {
+    pub program: usize,
+    pub station: usize,
+    pub role: Role,
+}
+
+impl fmt::Display for ProgramLine {
+    ghost output = { λ x. Some (program_text x.role x.program x.station) };
 
     fn fmt<W: fmt::Write>(&self, f: &mut fmt::Formatter<W>) -> fmt::Result {
         let program = self.program;
         let station = self.station;
-        write!(f, "program {program}, work of station {station}")
-    }
-}
-
-#[derive(Clone, Copy)]
-pub struct LineProgram {
-    pub program: usize,
-    pub station: usize,
-}
-
-impl fmt::Display for LineProgram {
-    ghost output = { λ x. Some (line_text x.program x.station) };
-
-    fn fmt<W: fmt::Write>(&self, f: &mut fmt::Formatter<W>) -> fmt::Result {
-        let program = self.program;
-        let station = self.station;
-        write!(f, "program {program}, line of station {station}")
+        match self.role {
+            Role::Work => write!(f, "program {program}, work of station {station}"),
+            Role::Line => write!(f, "program {program}, line of station {station}"),
+        }
     }
 }

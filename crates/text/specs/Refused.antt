@@ -1,4 +1,4 @@
-use Rattle.std.specs.Prelude.{ℕ, List, [], ◌∷◌, ◌++◌, decimal}
+use Rattle.std.specs.Prelude.{ℕ, List, [], ◌∷◌, ◌++◌, decimal, codes}
 use Rattle.fault.specs.declared.refusal.Fault.{Fault}
 use Rattle.fault.specs.declared.place.Place.{Place}
 use Rattle.fault.specs.Refusals.{number_of}
@@ -7,8 +7,8 @@ use Rattle.fault.specs.Places.{values_of}
 -- Numbers in decimal, a blank before each.
 abbrev pub blank_then : List ℕ → List ℕ
 blank_then [] = []
-blank_then (n ∷ ns) = 32 ∷ (decimal n ++ blank_then ns)
+blank_then (n ∷ ns) = codes " " ++ (decimal n ++ blank_then ns)
 
 -- "refused", the number and the place of a fault.
 abbrev pub refused_text : Fault Place → List ℕ
-refused_text f = 114 ∷ 101 ∷ 102 ∷ 117 ∷ 115 ∷ 101 ∷ 100 ∷ blank_then (number_of f.refusal ∷ values_of f.place)
+refused_text f = codes "refused" ++ blank_then (number_of f.refusal ∷ values_of f.place)

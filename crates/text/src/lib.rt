@@ -5,4 +5,4 @@ mod refused;
 mod row;
 
 pub use refused::RefusedLine;
-pub use row::{Five, FoundLine, HeadLine, InputsText, RowLine, Three};
+pub use row::{Column, FoundLine, HeadLine, InputsText, RowLine};

@@ -1,47 +1,21 @@
 ghost use Rattle.std.specs.Prelude.{Some};
 ghost use Rattle.sheet.specs.declared.row.Row.TheVariants.{Keep as keep_row, Call as call_row, Send as send_row};
-ghost use Rattle.text.specs.Rows.{three, five, relation_text, test_text, condition_text, inputs_text, begin_text, ticks_text, row_text, head_text, found_text};
+ghost use Rattle.text.specs.Rows.{column, relation_text, test_text, condition_text, inputs_text, begin_text, ticks_text, row_text, head_text, found_text};
 
 use crate::listeners::Listeners;
 use sheet::{Call, Condition, Head, Inputs, Keep, Relation, Row, Send, Test};
 use std::fmt;
 
-// A number in a column of three.
+// A number in a column: blanks before it, none where it is longer.
 #[derive(Clone, Copy)]
-pub struct Three(pub u64);
+pub struct Column<const WIDTH: usize>(pub u64);
 
-impl fmt::Display for Three {
-    ghost output = { λ x. Some (three x.0) };
+impl<const WIDTH: usize> fmt::Display for Column<WIDTH> {
+    ghost output = { λ x. Some (column WIDTH x.0) };
 
     fn fmt<W: fmt::Write>(&self, f: &mut fmt::Formatter<W>) -> fmt::Result {
         let n = self.0;
-        if n < 10 {
-            write!(f, "  {n}")
-        } else if n < 100 {
-            write!(f, " {n}")
-        } else {
-            write!(f, "{n}")
-        }
-    }
-}
-
-// A number in a column of five.
-#[derive(Clone, Copy)]
-pub struct Five(pub u64);
-
-impl fmt::Display for Five {
-    ghost output = { λ x. Some (five x.0) };
-
-    fn fmt<W: fmt::Write>(&self, f: &mut fmt::Formatter<W>) -> fmt::Result {
-        let n = self.0;
-        if n < 1000 {
-            let short = Three(n);
-            write!(f, "  {short}")
-        } else if n < 10000 {
-            write!(f, " {n}")
-        } else {
-            write!(f, "{n}")
-        }
+        write!(f, "{n:>WIDTH$}")
     }
 }
 
@@ -103,12 +77,12 @@ impl fmt::Display for InputsText {
         match self.0 {
             Inputs::Nothing => write!(f, "            "),
             Inputs::Single(a) => {
-                let a = Three(u64::from(a));
+                let a = Column::<3>(u64::from(a));
                 write!(f, "from {a}    ")
             }
             Inputs::Pair(a, b) => {
-                let a = Three(u64::from(a));
-                let b = Three(u64::from(b));
+                let a = Column::<3>(u64::from(a));
+                let b = Column::<3>(u64::from(b));
                 write!(f, "from {a},{b}")
             }
         }
@@ -126,7 +100,7 @@ impl fmt::Display for Begin {
     ghost output = { λ x. Some (begin_text x.number x.station) };
 
     fn fmt<W: fmt::Write>(&self, f: &mut fmt::Formatter<W>) -> fmt::Result {
-        let number = Three(self.number as u64);
+        let number = Column::<3>(self.number as u64);
         let station = self.station;
         write!(f, "row {number}  station {station}  ")
     }
@@ -143,8 +117,8 @@ impl fmt::Display for Ticks {
     ghost output = { λ x. Some (ticks_text x.date x.duration) };
 
     fn fmt<W: fmt::Write>(&self, f: &mut fmt::Formatter<W>) -> fmt::Result {
-        let date = Five(u64::from(self.date));
-        let end = Five(u64::from(self.date) + u64::from(self.duration));
+        let date = Column::<5>(u64::from(self.date));
+        let end = Column::<5>(u64::from(self.date) + u64::from(self.duration));
         write!(f, "  ticks {date} to {end}")
     }
 }
@@ -201,8 +175,8 @@ impl fmt::Display for KeepLine {
             number: self.number,
             station: self.keep.station,
         };
-        let taken = Three(u64::from(self.keep.taken));
-        let given = Three(u64::from(self.keep.given));
+        let taken = Column::<3>(u64::from(self.keep.taken));
+        let given = Column::<3>(u64::from(self.keep.given));
         let first = self.keep.first;
         write!(
             f,
@@ -226,9 +200,9 @@ impl fmt::Display for CallLine {
             number: self.number,
             station: self.call.station,
         };
-        let work = Three(u64::from(self.call.work));
+        let work = Column::<3>(u64::from(self.call.work));
         let inputs = InputsText(self.call.inputs);
-        let output = Three(u64::from(self.call.output));
+        let output = Column::<3>(u64::from(self.call.output));
         let ticks = Ticks {
             date: self.call.date,
             duration: self.call.duration,
@@ -256,7 +230,7 @@ impl fmt::Display for SendLine {
             number: self.number,
             station: self.send.station,
         };
-        let variable = Three(u64::from(self.send.variable));
+        let variable = Column::<3>(u64::from(self.send.variable));
         let ticks = Ticks {
             date: self.send.date,
             duration: self.send.duration,
