@@ -1,5 +1,5 @@
 -- What an accepted sheet and its translation give.
-use Rattle.std.proofs.Common.{◌≡◌, ℕ, ◌≤◌, List, Some, None, Ok, vec_items, Option, sym, ap, ◌∙◌, ap₂, arith, length-take}
+use Rattle.std.proofs.Common.{◌≡◌, ℕ, ◌≤◌, List, None, Ok, vec_items, sym, ap, ◌∙◌, ap₂, arith, length-take}
 use Rattle.std.proofs.lemmas.Bool.{le-ltb}
 use Rattle.sheet.specs.declared.row.Head.{Head}
 use Rattle.sheet.specs.declared.row.Row.{Row}
@@ -37,9 +37,6 @@ held t p =
 pub unbroken : (t : Translated) → HoldsPrograms t → first_broken 0 (programs_of t.layout (vec_items t.steps)) ≡ None
 unbroken t p =
     ap (first_broken 0) (held t p) ∙ programs-lawful.unbroken (accepted_head t.sheet) (accepted_rows t.sheet) (sheet-of t.sheet)
-
-pub never-some : {A : Type 0} {a : A} → ◌≡◌ {A = Option A} None (Some a) → ⊥
-never-some e = let z : ◌≡◌ {A = ℕ} 0 1 = cc in omega arith
 
 -- Nothing keeps a sheet from being run that fits and has room.
 pub nothing-against : (m : Model) (h : Head) (rows : List Row) (steps replies asked : ℕ) → Ok tt ≡ fit_from m 0 rows → asked ≤ replies → needed h rows ≤ steps

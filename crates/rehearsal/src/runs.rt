@@ -7,7 +7,6 @@ ghost use Rattle.rehearsal.specs.Ran.{why_not, Ran, HoldsPrograms};
 
 use crate::kept::Kept;
 use bench::Run;
-use fault::{Fault, Place};
 use fit::fit;
 use netcode::Step;
 use plant::Plant;
@@ -15,18 +14,6 @@ use semantics::{Reply, Request};
 use sheet::too_short;
 use stages::Accepted;
 use translate::{Translated, translate};
-
-fn kept(sheet: Accepted, steps: Vec<Step>, fault: Fault<Place>) -> Kept
-    ensures sheet { result.sheet ≡ sheet }
-    ensures steps { result.steps ≡ steps }
-    ensures fault { result.fault ≡ fault }
-{
-    Kept {
-        sheet,
-        steps,
-        fault,
-    }
-}
 
 // The run of the programs of an accepted sheet. Making never refuses them.
 fn started(sheet: Translated) -> Run
@@ -36,10 +23,7 @@ fn started(sheet: Translated) -> Run
 {
     let layout = sheet.layout();
     let (_, steps) = sheet.close();
-    match Run::make(layout, steps) {
-        Ok(run) => run,
-        Err(_) => unreachable(),
-    }
+    Run::make(layout, steps).unwrap()
 }
 
 // Runs an accepted sheet above a plant that knows its works: translates it into the list of steps, makes the run, and
@@ -60,18 +44,12 @@ pub fn run_sheet<P: Plant>(
         × (P.meaning plant.new ≡ P.meaning plant.old) × (replies.new ≡ replies.old)) }
 {
     if let Err(fault) = fit(plant, &sheet) {
-        return Err(kept(sheet, steps, fault.carried()));
+        return Err((sheet, steps, fault).into());
     }
     if replies.len() < requests.len() {
-        let fault = too_short(requests.len() as u64);
-        return Err(kept(sheet, steps, fault.carried()));
+        return Err((sheet, steps, too_short(requests.len() as u64)).into());
     }
-    match translate(sheet, steps) {
-        Ok(translated) => {
-            let mut run = started(translated);
-            let _ = run.serve_all(plant, requests, replies);
-            Ok(run)
-        }
-        Err((sheet, steps, fault)) => Err(kept(sheet, steps, fault.carried())),
-    }
+    let mut run = started(translate(sheet, steps)?);
+    let _ = run.serve_all(plant, requests, replies);
+    Ok(run)
 }

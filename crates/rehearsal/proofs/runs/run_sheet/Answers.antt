@@ -7,14 +7,14 @@ use Rattle.rehearsal.proofs.Sheets.{sheet-of, nothing-against}
 use Rattle.rehearsal.proofs.Served.{ran}
 use Rattle.rehearsal.proofs.runs.run_sheet.Goals as goal
 
-pub returns-in-Ok : goal.returns-in-Ok
-returns-in-Ok g c =
+pub returns : goal.returns
+returns g c =
     let m = g.P.Plant.model in
     let sheet = c.args.sheet in
     let h = accepted_head sheet in
     let rows = accepted_rows sheet in
     let start = g.P.Plant.meaning c.args.plant.now in
-    let t = c.in-Ok.ensures in
+    let t = c.in_ok-translate.ensures in
     let f = c.in_default.ensures in
     let known = f.means.good (f.value ∙ sym f.value) in
     let programs = c.started-run.ensures.programs ∙ ap (λ (a : Accepted). translated (accepted_head a) (accepted_rows a)) t.1 in (
