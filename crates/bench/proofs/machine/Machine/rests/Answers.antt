@@ -6,9 +6,6 @@ use Rattle.bench.specs.Quiet.{quiet_unit}
 use Rattle.bench.proofs.Still.{less-unit, less-line}
 use Rattle.bench.proofs.machine.Machine.rests.Goals as goal
 
-pub loop-unit-init : goal.loop-unit-init
-loop-unit-init c = (c.line_rests-until.ensures, λ p h. absurd (omega arith))
-
 pub loop-unit-preserved : goal.loop-unit-preserved
 loop-unit-preserved c =
     let a = c.min-until.result in
@@ -21,6 +18,3 @@ loop-unit-preserved c =
       below_more _ _ (λ p h. less-unit a c.loop-unit.until (unit_in c.args.self.now.state p) first (c.loop-unit.invariant.1 p h))
           (less-unit a c.unit_rests.result (unit_in c.args.self.now.state c.loop-unit.unit-index) second new),
     )
-
-pub returns : goal.returns
-returns c = record { units = λ p h. c.loop-unit.invariant.1 p (omega arith); line = c.loop-unit.invariant.0 }

@@ -1,6 +1,5 @@
-use Rattle.std.proofs.Common.{◌≡◌, ◌+◌, Ok, Err, ap, ◌∙◌, arith}
+use Rattle.std.proofs.Common.{◌+◌, Ok, Err, arith}
 use Rattle.std.proofs.lemmas.Result.{err_from_is_err_and}
-use Rattle.semantics.specs.Machine.{second_part}
 use Rattle.bench.specs.Shown.{world}
 use Rattle.bench.proofs.Loops.{second_none, end_on, second-ends}
 use Rattle.bench.proofs.machine.Machine.second_part.Goals as goal
@@ -18,8 +17,3 @@ returns-in_err-finish g c ps p =
 pub loop-number-preserved : goal.loop-number-preserved
 loop-number-preserved g c ps p =
     end_on g.P.Plant.model ps c.args.clock c.loop-number.number _ (world c.loop-number.self.state p) _ (Ok tt) (c.loop-number.invariant ps p) (c.in_ok-finish.ensures p)
-
-pub returns : goal.returns
-returns g c ps p =
-    let e : c.loop-number.number ≡ c.args.count = omega arith in
-    c.loop-number.invariant ps p ∙ ap (λ n. second_part g.P.Plant.model ps c.args.clock n (world c.args.self.now.state p)) e

@@ -1,21 +1,13 @@
-use Rattle.std.proofs.Common.{◌≡◌, List, get_or, refl, ap, ◌∙◌, arith}
-use Rattle.std.proofs.lemmas.List.Edits.{paste_none}
+use Rattle.std.proofs.Common.{◌≡◌, List, get_or, ap, ◌∙◌, arith}
 use Rattle.netcode.specs.declared.step.Step.{Step}
 use Rattle.semantics.specs.declared.state.Request.TheVariants.{Tick}
 use Rattle.semantics.specs.Machine.{World}
-use Rattle.semantics.specs.Requests.{served, served_all}
+use Rattle.semantics.specs.Requests.{served}
 use Rattle.bench.specs.Replies.{replied}
 use Rattle.bench.specs.Runs.{programs_in, world_in}
 use Rattle.bench.proofs.Rehearsals.{same_then, same-programs}
-use Rattle.bench.proofs.Lists.{left-none, left-more, pasted-more, all-served}
+use Rattle.bench.proofs.Lists.{left-more, pasted-more, all-served}
 use Rattle.bench.proofs.run.Run.serve_all.Goals as goal
-
-pub loop-i-init : goal.loop-i-init
-loop-i-init g c =
-    let m = g.P.Plant.model in
-    let ps = programs_in c.args.self.now in
-    let w : World m.State = world_in c.args.self.now (g.P.Plant.meaning c.args.plant.now) in
-    (record { layout = refl; steps = refl }, left-none m ps c.args.requests.now w, paste_none c.args.replies.now 0 (served_all m ps c.args.requests.now w).replies)
 
 pub loop-i-preserved : goal.loop-i-preserved
 loop-i-preserved g c =
@@ -33,12 +25,9 @@ loop-i-preserved g c =
       pasted-more m ps qs w v u i c.serve.result c.args.replies.now c.loop-i.replies c.loop-i-test.true (omega arith) c.loop-i.invariant.1 e c.loop-i.invariant.2,
     )
 
-pub returns : goal.returns
-returns g c =
+pub returns-clause-served : goal.returns-clause-served
+returns-clause-served g c =
     let m = g.P.Plant.model in
     let w : World m.State = world_in c.args.self.now (g.P.Plant.meaning c.args.plant.now) in
     let v : World m.State = world_in c.loop-i.self (g.P.Plant.meaning c.loop-i.plant) in
-    record {
-      served = all-served m (programs_in c.args.self.now) c.args.requests.now w v c.loop-i.i c.args.replies.now c.loop-i.replies (omega arith) (omega arith) c.loop-i.invariant.1 c.loop-i.invariant.2;
-      programs = c.loop-i.invariant.0;
-    }
+    all-served m (programs_in c.args.self.now) c.args.requests.now w v c.loop-i.i c.args.replies.now c.loop-i.replies (omega arith) (omega arith) c.loop-i.invariant.1 c.loop-i.invariant.2
