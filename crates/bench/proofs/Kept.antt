@@ -5,7 +5,6 @@ use Rattle.sheet.specs.declared.row.Relation.{Relation}
 use Rattle.netcode.specs.declared.step.Step.{Step}
 use Rattle.netcode.specs.declared.step.Step.TheVariants.{Test, Future, Halt, Call, Send, Receive, Keep, Clear, Give}
 use Rattle.netcode.specs.Layouts.{station_of}
-use Rattle.netcode.specs.Laws.{Within}
 use Rattle.plant.specs.Model.{Model}
 use Rattle.plant.specs.declared.works.Words.{Words}
 use Rattle.plant.specs.Replies.{count_of}
@@ -18,19 +17,7 @@ use Rattle.semantics.specs.declared.state.UnitState.{UnitState}
 use Rattle.semantics.specs.declared.state.Message.{Message}
 use Rattle.semantics.specs.Machine.{World, Stepped, Outcome, at, fault_at, unknown_at, blank_mark, mark_in, unit_in, word_in, is_idle, is_busy, with_job, with_timer, with_unit, marked, input_words, tested, called, answered, sent, on_line, listening, kept_from, performed, onward, steps, due_at, turn, and_then, first_part}
 use Rattle.semantics.specs.Machine.Stepped.{onto, halted}
-use Rattle.bench.specs.Shown.{Room, Fits}
-
--- The fields of a step within its limits fit.
-pub fits-within : (count address : ℕ) (s : Step) → Within count address s → Fits s
-fits-within count address (Test v r w t) h = h.0
-fits-within count address (Future n t) h = h.0.1
-fits-within count address Halt h = tt
-fits-within count address (Call r w i o d) h = (h.0, h.2, h.3, h.4.1)
-fits-within count address (Send r v d) h = (h.0, h.1, h.2.1)
-fits-within count address (Receive v d) h = (h.0, h.1.1)
-fits-within count address (Keep v c) h = h
-fits-within count address Clear h = tt
-fits-within count address (Give c v w) h = h
+use Rattle.bench.specs.Shown.{Room}
 
 pub record Kept (program : ℕ) (s t : State) : Type 0 where
   pub granted : t.granted ≡ s.granted
@@ -42,7 +29,7 @@ state_of (onto address w) = w.state
 state_of (halted w) = w.state
 state_of (Stepped.refused fault w) = w.state
 
-pub kept-all : (program : ℕ) (s : State) → Kept program s s
+kept-all : (program : ℕ) (s : State) → Kept program s s
 kept-all program s = record { granted = refl; units = refl; room = λ r. r }
 
 -- The unit of a program after it was changed.
@@ -87,7 +74,7 @@ kept-job program s j h busy = record {
     at_most true k r = r
     at_most false k r = omega (arith, r)
 
-pub kept-timer : (program : ℕ) (s : State) (t : Option ℕ) (to : ℕ) → program < length s.units → Kept program s (with_timer s program t to)
+kept-timer : (program : ℕ) (s : State) (t : Option ℕ) (to : ℕ) → program < length s.units → Kept program s (with_timer s program t to)
 kept-timer program s t to h = record {
   granted = refl;
   units = length-set s.units program _;

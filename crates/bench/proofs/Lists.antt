@@ -39,7 +39,7 @@ module _ (m : Model) (ps : List (List Step)) where
       sym (first_of (get_or qs i Tick) (drop (i + 1) qs) v u r e) ∙ ap (λ (xs : List Request). served_all m ps xs v) (sym (drop_more qs i Tick h)) ∙ l
 
   -- The reply at a place of the list, and what is left then.
-  pub reply-is : (qs : List Request) (w v u : World m.State) (i : ℕ) (r d : Reply) → i < length qs → Left qs w i v → replied r u ≡ served m ps (get_or qs i Tick) v
+  reply-is : (qs : List Request) (w v u : World m.State) (i : ℕ) (r d : Reply) → i < length qs → Left qs w i v → replied r u ≡ served m ps (get_or qs i Tick) v
       → get_or (served_all m ps qs w).replies i d ≡ r
   reply-is qs w v u i r d h l e = head-is _ i r _ (sym (ap (λ (s : ServedAll m.State). s.replies) (both qs w v u i r h l e))) d
 

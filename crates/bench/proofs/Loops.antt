@@ -1,10 +1,10 @@
 -- One unit more of a part of a tick.
-use Rattle.std.proofs.Common.{◌≡◌, ℕ, zero, suc, ◌+◌, ◌-◌, ◌≤◌, List, [], ◌∷◌, length, get_or, drop, Result, sym, refl, ap, ◌∙◌, zero-add, add-one, arith}
+use Rattle.std.proofs.Common.{◌≡◌, ℕ, zero, suc, ◌+◌, ◌-◌, ◌≤◌, List, [], ◌∷◌, get_or, drop, Result, sym, refl, ap, ◌∙◌, zero-add, add-one, arith}
 use Rattle.fault.specs.declared.refusal.Fault.{Fault}
 use Rattle.fault.specs.declared.place.TickPlace.{TickPlace}
 use Rattle.netcode.specs.declared.step.Step.{Step}
 use Rattle.plant.specs.Model.{Model}
-use Rattle.semantics.specs.Machine.{World, Outcome, turn, and_then, first_part, unit_in, ended, second_part, leaves, parts}
+use Rattle.semantics.specs.Machine.{World, Outcome, turn, and_then, first_part, unit_in, ended, second_part}
 use Rattle.bench.specs.Shown.{outcome}
 use Rattle.bench.proofs.Left.{head-is}
 
@@ -58,15 +58,3 @@ module _ (m : Model) (programs : List (List Step)) where
 
   pub second-ends : (clock n count : ℕ) (w u : World m.State) (f : Fault TickPlace) → n ≤ count → Outcome.refused f u ≡ second_part m programs clock n w → Outcome.refused f u ≡ second_part m programs clock count w
   second-ends clock n count w = ends (λ k. second_part m programs clock k w) (λ k v. ended m (unit_in v.state k).job clock k v) (second_more clock w) n count
-
-  -- Both parts, from what the first and the second came to.
-  pub first-refused : (w u : World m.State) (f : Fault TickPlace) → Outcome.refused f u ≡ first_part m programs (length programs) w → Outcome.refused f u ≡ parts m programs w
-  first-refused w u f e =
-      ap (λ (o : Outcome m.State). and_then o (λ v. and_then (second_part m programs (w.state.granted + 1) (length programs) v) (λ x. Outcome.done (leaves m (w.state.granted + 1) x)))) e
-
-  pub second-came : (count : ℕ) (w v u : World m.State) (r : Result (Unit {0}) (Fault TickPlace)) → count ≡ length programs → Outcome.done v ≡ first_part m programs (length programs) w
-      → outcome r u ≡ second_part m programs (w.state.granted + 1) count v
-      → and_then (outcome r u) (λ x. Outcome.done (leaves m (w.state.granted + 1) x)) ≡ parts m programs w
-  second-came count w v u r c e d =
-      ap (λ (o : Outcome m.State). and_then o (λ x. Outcome.done (leaves m (w.state.granted + 1) x))) (d ∙ ap (λ n. second_part m programs (w.state.granted + 1) n v) c)
-      ∙ ap (λ (o : Outcome m.State). and_then o (λ v. and_then (second_part m programs (w.state.granted + 1) (length programs) v) (λ x. Outcome.done (leaves m (w.state.granted + 1) x)))) e

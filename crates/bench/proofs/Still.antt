@@ -47,7 +47,7 @@ module _ (m : Model) where
         ap (λ (o : Outcome m.State). and_then o (λ v. ended m (unit_in v.state n).job (w.state.granted + 1) n v)) (still-second n (omega arith))
         ∙ not-ended until (w.state.granted + 1) n (unit_in w.state n).job w before (and_parts _ _ (quiet.units n (omega arith))).1
 
-    pub still-parts : length programs ≤ 16 → parts m programs w ≡ Outcome.done w
+    still-parts : length programs ≤ 16 → parts m programs w ≡ Outcome.done w
     still-parts h =
         ap (λ (o : Outcome m.State). and_then o (λ v. and_then (second_part m programs (w.state.granted + 1) (length programs) v) (λ u. Outcome.done (leaves m (w.state.granted + 1) u)))) (still-first (length programs) h)
         ∙ ap (λ (o : Outcome m.State). and_then o (λ u. Outcome.done (leaves m (w.state.granted + 1) u))) (still-second (length programs) h)
@@ -64,7 +64,7 @@ less-job a b (Store end variable word) h q = let k : b ≤ end = leb-true _ _ q 
 less-job a b (Carry end) h q = let k : b ≤ end = leb-true _ _ q in le-leb a end (omega arith)
 less-job a b (Listen end variable address) h q = let k : b ≤ end = leb-true _ _ q in le-leb a end (omega arith)
 
-pub both-unit : (a b c : ℕ) (u : UnitState) → a ≤ b → a ≤ c → quiet_timer b u.timer ≡ true → quiet_job c u.job ≡ true → quiet_unit a u ≡ true
+both-unit : (a b c : ℕ) (u : UnitState) → a ≤ b → a ≤ c → quiet_timer b u.timer ≡ true → quiet_job c u.job ≡ true → quiet_unit a u ≡ true
 both-unit a b c u h k q r = rw (less-timer a b u.timer h q, less-job a c u.job k r)
 
 pub less-unit : (a b : ℕ) (u : UnitState) → a ≤ b → quiet_unit b u ≡ true → quiet_unit a u ≡ true

@@ -73,6 +73,7 @@ impl Run {
         if replies.len() < requests.len() {
             return Err(too_short(requests.len() as u64));
         }
+        // By index: after `replies.iter_mut().zip(requests)` a proof knows the length of the list and none of its replies.
         for (i, request) in requests.iter().enumerate() {
             replies[i] = self.serve(plant, *request);
         }
