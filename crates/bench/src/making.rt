@@ -9,40 +9,35 @@ use fault::{Fault, StepPlace};
 use netcode::{Layout, Step, check};
 use semantics::{Job, Mark, State, UnitState};
 
-// At making all places and cells are empty, and every unit is due at address 0.
-fn new_machine() -> Machine
-    ensures state { result.state ≡ new_state }
-    ensures quiet { result.quiet ≡ 0 }
-{
-    Machine {
-        state: State {
-            places: [None; 512],
-            cells: [None; 16],
-            marks: [Mark {
-                count: 0,
-                tick: 0,
-                first: None,
-                second: None,
-                given: None,
-            }; 128],
-            units: [UnitState {
-                timer: Some(0),
-                address: 0,
-                job: Job::Idle,
-            }; 16],
-            line: None,
-            granted: 0,
-            stopped: false,
-        },
-        quiet: 0,
+impl Machine {
+    // At making all places and cells are empty, and every unit is due at address 0.
+    fn new() -> Machine
+        ensures state { result.state ≡ new_state }
+        ensures quiet { result.quiet ≡ 0 }
+    {
+        Machine {
+            state: State {
+                places: [None; 512],
+                cells: [None; 16],
+                marks: [Mark {
+                    count: 0,
+                    tick: 0,
+                    first: None,
+                    second: None,
+                    given: None,
+                }; 128],
+                units: [UnitState {
+                    timer: Some(0),
+                    address: 0,
+                    job: Job::Idle,
+                }; 16],
+                line: None,
+                granted: 0,
+                stopped: false,
+            },
+            quiet: 0,
+        }
     }
-}
-
-// The length of program 0. That it can be read shows that there are sixteen.
-fn first_length(layout: &Layout) -> usize
-    ensures { length layout.now.lengths ≡ 16 }
-{
-    layout.lengths[0]
 }
 
 impl Run {
@@ -56,11 +51,10 @@ impl Run {
         if let Some(fault) = check(&layout, steps.as_slice()) {
             return Err((layout, steps, fault));
         }
-        let _ = first_length(&layout);
         Ok(Run {
             layout,
             steps,
-            machine: new_machine(),
+            machine: Machine::new(),
         })
     }
 }

@@ -1,7 +1,7 @@
 ghost use Rattle.std.specs.Prelude.{◌≡◌, ℕ, ◌+◌, ◌*◌, ◌^◌, ◌<◌, ◌≤◌, length};
 ghost use Rattle.netcode.specs.Layouts.{programs_of};
 ghost use Rattle.netcode.specs.Laws.{Lawful};
-ghost use Rattle.semantics.specs.Machine.{unit_in, steps, due_at, turn, first_part};
+ghost use Rattle.semantics.specs.Machine.{steps, turn, first_part};
 ghost use Rattle.bench.specs.Shown.{world, outcome, Room};
 
 use crate::code::Code;
@@ -34,13 +34,6 @@ impl Machine {
         Ok(())
     }
 
-    // Whether the unit of a program is due.
-    fn is_due<P: Plant>(&self, program: Program) -> bool
-        ensures { result ≡ due_at P.model (unit_in self.now.state program.number).timer self.now.state.granted }
-    {
-        self.unit(program).timer == Some(self.state.granted)
-    }
-
     // The turn of a program's unit: if it is due while busy it is refused 17; else its timer is spent, and it
     // performs steps.
     fn turn<P: Plant>(
@@ -53,15 +46,15 @@ impl Machine {
         requires room { Room self.old.state program.number }
         ensures { outcome result (world self.new.state (P.meaning plant.new)) ≡ turn P.model code.now program.number (world self.old.state (P.meaning plant.old)) }
     {
-        if !self.is_due::<P>(program) {
+        let unit = self.unit(program);
+        if unit.timer != Some(self.state.granted) {
             return Ok(());
         }
-        let address = self.unit(program).address;
         if self.is_busy(program) {
-            return Err(program.fault(Refusal::UnitBusy, address));
+            return Err(program.fault(Refusal::UnitBusy, unit.address));
         }
-        self.set_timer(program, None, address);
-        self.run(program, code, address, plant)
+        self.set_timer(program, None, unit.address);
+        self.run(program, code, unit.address, plant)
     }
 
     // The first part of a tick: the units take their turns, rising, and so stations rise, and a station's work
