@@ -1,16 +1,24 @@
 -- Reading pairs from a part of the bytes, and on from a position.
-use Rattle.std.proofs.Common.{◌≡◌, ℕ, zero, suc, ◌+◌, ◌-◌, ◌<◌, ◌≤◌, true, cond, ◌&&◌, eqb, ltb, List, [], ◌∷◌, length, get_or, drop, set, Some, None, Ok, Err, Option, Result, sym, refl, ap, ◌∙◌, ap₂, ⊎_elim, add_assoc, zero-add, arith}
-use Rattle.std.proofs.lemmas.List.{drop-drop, drop_all}
+use Rattle.std.proofs.Common.{◌≡◌, ℕ, zero, suc, ◌+◌, ◌-◌, ◌<◌, ◌≤◌, Bor, Bool, true, false, cond, ◌&&◌, eqb, ltb, List, [], ◌∷◌, length, get_or, drop, set, Some, None, Ok, Err, Option, Result, sym, refl, ap, ◌∙◌, ap₂, ⊎_elim, add_assoc, zero-add, arith}
+use denote.Param.Members.{Mut}
+use Rattle.std.specs.Fn.{CalledAt}
+use Rattle.std.specs.Iterator.{Yields, YieldsThen, FindsItem}
+use Rattle.std.specs.List.{FoldsTo}
+use Rattle.std.specs.Option.{IfSome, option_map, option_map_or}
+use Rattle.std.specs.Result.{result_ok}
+use Rattle.std.proofs.lemmas.List.{drop-drop}
 use Rattle.fault.specs.declared.refusal.Fault.{Fault}
 use Rattle.fault.specs.declared.refusal.Refusal.{Refusal}
 use Rattle.fault.specs.declared.refusal.Refusal.TheVariants.{Trailing}
 use Rattle.fault.specs.declared.place.Offset.{Offset}
 use Rattle.wire.specs.Numbers.{numeral, number_at, after_number, value_of, next_of, fault_at, and_then}
-use Rattle.std.proofs.lemmas.Bool.{eq-eqb, ne_eqb, eqb-true, lt-ltb, le-ltb, and_parts, or_cases}
+use Rattle.std.proofs.lemmas.Bool.{eq-eqb, eqb-true, lt-ltb, le-ltb, and_parts, or_cases}
 use Rattle.plant.specs.Model.{Work, knows, leaves}
 use Rattle.plant.specs.Replies.{replied}
 use Rattle.plant.specs.Script.{script, next_word, later_words, pair_at, after_pair, pair_and, pair_here, read_on, unread, unused_by, unused_from, words_of, pairs_at, pairs_end, script_read, script_at_first}
+use Rattle.plant.specs.Pairs.{pairs_left, next_pair}
 use Rattle.plant.specs.declared.script.Cursor.{Cursor}
+use Rattle.plant.specs.declared.script.Pairs.{Pairs}
 
 -- A pair of two numbers that were read or not, the second from where the first ended.
 second : (p q v : ℕ) (y : Result (ℕ × ℕ) Refusal) (k : ℕ) → p + k ≡ q
@@ -31,48 +39,54 @@ pub pair-after : (bs : List ℕ) (pos : ℕ)
     → pair_and (pair_at (drop pos bs) 0) (pos + after_pair (drop pos bs) 0) ≡ pair_here bs pos
 pair-after bs pos = first bs pos (numeral 4 true (drop pos bs))
 
--- Behind the bytes there is no pair.
-pub pair-behind : (bs : List ℕ) (pos : ℕ) → length bs < pos → None ≡ pair_here bs pos
-pair-behind bs pos h = rw (drop_all pos bs (omega arith))
-
 -- What a reader of the bytes `ys` after `pos` finds.
 module _ (bs ys : List ℕ) (pos p : ℕ) (part : ys ≡ drop pos bs) (start : p ≡ 0) where
-  pub no-pair : (f : Fault Offset) → Err f ≡ pair_at ys p → None ≡ pair_here bs pos
-  no-pair f h =
-      ap (λ (r : Result (ℕ × ℕ) (Fault Offset)). pair_and r (pos + after_pair (drop pos bs) 0)) (h ∙ ap₂ pair_at part start)
+  found : (r : Result (ℕ × ℕ) (Fault Offset)) (e : ℕ) → r ≡ pair_at ys p → e ≡ after_pair ys p → pair_and r (pos + e) ≡ pair_here bs pos
+  found r e h k =
+      ap₂ (λ (x : Result (ℕ × ℕ) (Fault Offset)) (n : ℕ). pair_and x (pos + n)) (h ∙ ap₂ pair_at part start) (k ∙ ap₂ after_pair part start)
       ∙ pair-after bs pos
 
-  pub pair-there : (v w e : ℕ) → Ok (v, w) ≡ pair_at ys p → e ≡ after_pair ys p → Some (v, w, pos + e) ≡ pair_here bs pos
-  pair-there v w e h k =
-      ap₂ (λ (r : Result (ℕ × ℕ) (Fault Offset)) (n : ℕ). pair_and r (pos + n)) (h ∙ ap₂ pair_at part start) (k ∙ ap₂ after_pair part start)
-      ∙ pair-after bs pos
+  pub pair-found : (r : Result (ℕ × ℕ) (Fault Offset)) (e : ℕ) (o : Option (ℕ × ℕ)) → r ≡ pair_at ys p → e ≡ after_pair ys p → o ≡ result_ok r
+      → option_map (λ q. (q.0, q.1, pos + e)) o ≡ pair_here bs pos
+  pair-found (Ok v) e o h k l = rw l (found (Ok v) e h k)
+  pair-found (Err f) e o h k l = rw l (found (Err f) e h k)
 
--- A list that reads on by one pair.
-pub unread-more : (n : ℕ) (bs : List ℕ) (pos : ℕ) (o : Option (ℕ × ℕ × ℕ)) → 0 < n → o ≡ pair_here bs pos
-    → unread n bs pos ≡ read_on o (unread (n - 1) bs)
-unread-more zero bs pos o h e = absurd (omega arith)
-unread-more (suc n) bs pos o h e =
-    let k : suc n - 1 ≡ n = omega arith in
-    rw k (ap (λ (x : Option (ℕ × ℕ × ℕ)). read_on x (unread n bs)) (sym e))
+-- The search for a station's pair passes over those of other stations.
+module _ {F : Type 0} (R : F → ℕ × ℕ → Bool → F → Type 0) (f : F) (station : ℕ)
+    (each : (x : ℕ × ℕ) (b : Bool) (q : F) → R f x b q → (q ≡ f) × (b ≡ eqb x.0 station)) where
+  passed : (xs : List (ℕ × ℕ)) (g : F) (s t : Pairs) → Yields next_pair s xs t → FoldsTo (λ p x q. R p x false q) f xs g
+      → (g ≡ f) × (t.bytes ≡ s.bytes) × (words_of station (pairs_left s) ≡ words_of station (pairs_left t))
+  passed [] g s t y h = (sym h, ap (λ (z : Pairs). z.bytes) (sym y), ap (λ (z : Pairs). words_of station (pairs_left z)) y)
+  passed (x ∷ xs) g s t y h =
+      let j = y.0 in
+      let a = each x false h.0 h.1 in
+      let i = passed xs g j t y.2 (rw a.0 at h.2) in
+      (i.0, i.1 ∙ y.1.1, ap (words_of station) y.1.0 ∙ rw (← a.1) i.2)
 
-module _ (bs : List ℕ) (station : ℕ) where
-  unused-more : (c : Cursor) (o : Option (ℕ × ℕ × ℕ)) → 0 < c.left → o ≡ pair_here bs c.pos
-      → unused_by bs station c ≡ words_of station (read_on o (unread (c.left - 1) bs))
-  unused-more c o h e = ap (words_of station) (unread-more c.left bs c.pos o h e)
+  same : (s u : Pairs) → u.bytes ≡ s.bytes → unused_by s.bytes.now station u.cursor ≡ words_of station (pairs_left u)
+  same s u b = ap (λ (bs : Bor (List ℕ)). unused_by bs.now station u.cursor) (sym b)
 
-  pub unused-none : (c : Cursor) → 0 < c.left → None ≡ pair_here bs c.pos → unused_by bs station c ≡ []
-  unused-none c h e = unused-more c None h e
+  searched : (r : Option (ℕ × ℕ)) (s u : Pairs)
+      → (xs : List (ℕ × ℕ)) × (g : F) × YieldsThen next_pair s xs r u × FoldsTo (λ p x q. R p x false q) f xs g × IfSome r (λ x. (h : F) × R g x true h)
+      → (option_map_or (λ x. x.1) r 0 ≡ next_word (words_of station (pairs_left s)))
+      × (unused_by s.bytes.now station u.cursor ≡ later_words (words_of station (pairs_left s)))
+  searched None s u h =
+      let p = passed h.0 h.1 s h.2.0 h.2.1 h.3 in
+      let e : words_of station (pairs_left s) ≡ [] = p.2 ∙ ap (words_of station) h.2.2.0.0 in
+      (sym (ap next_word e), same s u (h.2.2.1 ∙ p.1) ∙ ap (words_of station) h.2.2.0.1 ∙ sym (ap later_words e))
+  searched (Some x) s u h =
+      let p = passed h.0 h.1 s h.2.0 h.2.1 h.3 in
+      let a = each x true h.4.0 (rw p.0 at h.4.1) in
+      let e : words_of station (pairs_left s) ≡ x.1 ∷ words_of station (pairs_left u) = p.2 ∙ ap (words_of station) h.2.2.0 ∙ rw (← a.1) in
+      (sym (ap next_word e), same s u (h.2.2.1 ∙ p.1) ∙ sym (ap later_words e))
 
-  pub unused-end : (c : Cursor) → c.left ≡ 0 → unused_by bs station c ≡ []
-  unused-end c h = ap (λ (n : ℕ). words_of station (unread n bs c.pos)) h
-
-  pub unused-mine : (c : Cursor) (owner word after : ℕ) → 0 < c.left → Some (owner, word, after) ≡ pair_here bs c.pos
-      → owner ≡ station → unused_by bs station c ≡ word ∷ unused_by bs station (record { pos = after; left = c.left - 1 })
-  unused-mine c owner word after h e k = unused-more c _ h e ∙ rw (eq-eqb owner station k)
-
-  pub unused-other : (c : Cursor) (owner word after : ℕ) → 0 < c.left → Some (owner, word, after) ≡ pair_here bs c.pos
-      → (owner ≡ station → ⊥) → unused_by bs station c ≡ unused_by bs station (record { pos = after; left = c.left - 1 })
-  unused-other c owner word after h e k = unused-more c _ h e ∙ rw (ne_eqb owner station k)
+-- The word that `find` comes to, and the words after it.
+pub found-word : {F : Type 0} (g : Mut F (Bor (ℕ × ℕ) × Unit {0}) Bool) (f : F) (station : ℕ) (r : Option (ℕ × ℕ)) (s u : Pairs)
+    → FindsItem next_pair g s f r u
+    → ((x : ℕ × ℕ) (b : Bool) (q : F) → CalledAt g f x b q → (q ≡ f) × (b ≡ eqb x.0 station))
+    → (option_map_or (λ x. x.1) r 0 ≡ next_word (words_of station (pairs_left s)))
+    × (unused_by s.bytes.now station u.cursor ≡ later_words (words_of station (pairs_left s)))
+found-word g f station r s u h each = searched (CalledAt g) f station each r s u h
 
 -- Where pairs end, one pair on.
 pub end_more : (bs : List ℕ) (n i p : ℕ) → i < n

@@ -7,3 +7,4 @@ pub mod Laws
 pub mod Order
 pub mod Fit
 pub mod ScriptForm
+pub mod Pairs

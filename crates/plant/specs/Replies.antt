@@ -35,6 +35,10 @@ asked station work inputs = record {
 abbrev pub unknown : Work → Fault WorkPlace
 unknown w = record { refusal = UnknownWork; place = record { station = w.station; work = w.number } }
 
+-- The refusal of a work that is not known.
+abbrev pub admitted : Model → Work → Result (Unit {0}) (Fault WorkPlace)
+admitted m w = cond (knows m w) (Ok tt) (Err (unknown w))
+
 -- The model's answer where the work is known, and else the refusal with station and work.
 abbrev pub replied : (m : Model) → m.State → Work → Result ℕ (Fault WorkPlace)
 replied m s w = cond (knows m w) (Ok (m.answer s w)) (Err (unknown w))

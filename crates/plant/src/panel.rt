@@ -2,7 +2,7 @@ ghost use Rattle.std.specs.Prelude.{◌≡◌};
 ghost use Rattle.plant.specs.Laws.{panel_apart};
 ghost use Rattle.plant.specs.Panel.{panel, panel_at_first};
 
-use crate::works::{Plant, Words, unknown_work};
+use crate::works::{Plant, Words};
 use fault::{Fault, WorkPlace};
 
 // A plant with a register for each of eight stations.
@@ -28,13 +28,11 @@ impl Plant for Panel {
     ghost apart = { panel_apart };
 
     fn knows(&self, station: u32, work: u32, count: u32) -> bool {
-        station < 8 && ((work == 10 && count == 0) || (work == 11 && count == 1))
+        station < 8 && matches!((work, count), (10, 0) | (11, 1))
     }
 
     fn perform(&mut self, station: u32, work: u32, inputs: Words) -> Result<u32, Fault<WorkPlace>> {
-        if !self.knows(station, work, inputs.count()) {
-            return Err(unknown_work(station, work));
-        }
+        self.admit(station, work, inputs)?;
         let old = self.registers[station as usize];
         if work == 11 {
             self.registers[station as usize] = inputs.first();

@@ -1,9 +1,11 @@
-ghost use Rattle.std.specs.Prelude.{◌≡◌, ◌<◌, length, slice_set};
+ghost use Rattle.std.specs.Prelude.{◌≡◌};
 ghost use Rattle.plant.specs.Laws.{script_apart};
 ghost use Rattle.plant.specs.Script.{script, script_read, map_ok, next_word, later_words, pair_at, after_pair, pair_here, pairs_end, unused_by, unused_from};
+ghost use Rattle.std.specs.Iterator.{item_count};
+ghost use Rattle.plant.specs.Pairs.{pairs_left, next_pair};
 ghost use Rattle.plant.specs.ScriptForm.{ScriptBack, ScriptOneForm};
 
-use crate::works::{Plant, Words, unknown_work};
+use crate::works::{Plant, Words};
 use fault::{Fault, Offset, Refusal, WorkPlace};
 use wire::Reader;
 
@@ -36,13 +38,30 @@ fn read_pair(reader: &mut Reader) -> Result<(u32, u32), Fault<Offset>>
 fn pair_at(bytes: &[u8], pos: usize) -> Option<(u32, u32, usize)>
     ensures { result ≡ pair_here bytes.now pos }
 {
-    if pos > bytes.len() {
-        return None;
-    }
-    let mut reader = Reader::new(&bytes[pos..]);
-    match read_pair(&mut reader) {
-        Err(_) => None,
-        Ok((owner, word)) => Some((owner, word, pos + reader.pos())),
+    let mut reader = Reader::new(bytes.get(pos..)?);
+    let (owner, word) = read_pair(&mut reader).ok()?;
+    Some((owner, word, pos + reader.pos()))
+}
+
+// The pairs of a script from a cursor on, as far as they can be read.
+#[derive(Drop)]
+struct Pairs<'a> {
+    bytes: &'a [u8],
+    cursor: Cursor,
+}
+
+impl Iterator for Pairs<'_> {
+    type Item = (u32, u32);
+
+    ghost next_gives = { next_pair };
+
+    ghost remaining = { item_count pairs_left };
+
+    fn next(&mut self) -> Option<(u32, u32)> {
+        let left = self.cursor.left.checked_sub(1)?;
+        let (owner, word, pos) = pair_at(self.bytes, self.cursor.pos)?;
+        self.cursor = Cursor { pos, left };
+        Some((owner, word))
     }
 }
 
@@ -51,30 +70,14 @@ fn next_word(bytes: &[u8], station: u32, from: Cursor) -> (u32, Cursor)
     ensures word { result.0 ≡ next_word (unused_by bytes.now station from) }
     ensures later { unused_by bytes.now station result.1 ≡ later_words (unused_by bytes.now station from) }
 {
-    let mut cursor = from;
-    while cursor.left > 0 {
-        match pair_at(bytes, cursor.pos) {
-            None => return (0, cursor),
-            Some((owner, word, after)) => {
-                cursor = Cursor {
-                    pos: after,
-                    left: cursor.left - 1,
-                };
-                if owner == station {
-                    return (word, cursor);
-                }
-            }
-        }
-    }
-    (0, cursor)
-}
-
-// Lets a station read on from a cursor.
-fn put_cursor(from: &mut [Cursor], station: u32, cursor: Cursor)
-    requires { station < length from.old }
-    ensures { from.new ≡ slice_set from.old station cursor }
-{
-    from[station as usize] = cursor;
+    let mut pairs = Pairs {
+        bytes,
+        cursor: from,
+    };
+    let word = pairs
+        .find(|(owner, _)| *owner == station)
+        .map_or(0, |(_, word)| word);
+    (word, pairs.cursor)
 }
 
 // Reads so many pairs, and says where they end.
@@ -129,18 +132,16 @@ impl<'a> Plant for Script<'a> {
     ghost apart = { script_apart };
 
     fn knows(&self, station: u32, work: u32, count: u32) -> bool {
-        station < 8 && ((work == 20 && count == 0) || (work == 1 && count == 1))
+        station < 8 && matches!((work, count), (20, 0) | (1, 1))
     }
 
     fn perform(&mut self, station: u32, work: u32, inputs: Words) -> Result<u32, Fault<WorkPlace>> {
-        if !self.knows(station, work, inputs.count()) {
-            return Err(unknown_work(station, work));
-        }
+        self.admit(station, work, inputs)?;
         if work == 1 {
             return Ok(inputs.first());
         }
         let (word, cursor) = next_word(self.bytes, station, self.from[station as usize]);
-        put_cursor(&mut self.from, station, cursor);
+        self.from[station as usize] = cursor;
         Ok(word)
     }
 }

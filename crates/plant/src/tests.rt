@@ -25,28 +25,19 @@ fn panel_answers_the_old_word(rt: HostRuntime) {
 #[test]
 fn script_uses_words_up(rt: HostRuntime) -> Result<(), Fail> {
     let bytes = [4, 0, 7, 1, 3, 9, 5, 0, 8];
-    match Script::read(&bytes) {
-        Ok(script) => {
-            let mut plant = script;
-            assert_eq!(rt; plant.perform(0, 20, Words::Nothing).ok(), Some(7));
-            assert_eq!(rt; plant.perform(0, 20, Words::Nothing).ok(), Some(8));
-            assert_eq!(rt; plant.perform(0, 20, Words::Nothing).ok(), Some(0));
-            assert_eq!(rt; plant.perform(1, 20, Words::Nothing).ok(), Some(3));
-            Ok(())
-        }
-        Err(_) => Err(Fail::new("refused")),
-    }
+    let mut plant = Script::read(&bytes).ok().ok_or("refused")?;
+    assert_eq!(rt; plant.perform(0, 20, Words::Nothing).ok(), Some(7));
+    assert_eq!(rt; plant.perform(0, 20, Words::Nothing).ok(), Some(8));
+    assert_eq!(rt; plant.perform(0, 20, Words::Nothing).ok(), Some(0));
+    assert_eq!(rt; plant.perform(1, 20, Words::Nothing).ok(), Some(3));
+    Ok(())
 }
 
 #[test]
 fn script_ends_with_its_pairs(rt: HostRuntime) -> Result<(), Fail> {
-    match Script::read(&[1, 0, 7, 0]) {
-        Ok(_) => Err(Fail::new("read")),
-        Err(f) => {
-            assert!(rt; f.refusal == Refusal::Trailing && f.place.0 == 3);
-            Ok(())
-        },
-    }
+    let fault = Script::read(&[1, 0, 7, 0]).err().ok_or("read")?;
+    assert!(rt; fault.refusal == Refusal::Trailing && fault.place.0 == 3);
+    Ok(())
 }
 
 fn call(work: u32) -> Row {
@@ -63,11 +54,11 @@ fn call(work: u32) -> Row {
 
 #[test]
 fn fit_names_the_first_unknown(rt: HostRuntime) -> Result<(), Fail> {
-    match fit_rows(&Reckoner, &[call(3), call(6), call(7)]) {
-        Ok(()) => Err(Fail::new("fits")),
-        Err(f) => {
-            assert!(rt; f.refusal == Refusal::UnknownWork && f.place.work == 6 && f.place.row == 1);
-            Ok(())
-        },
-    }
+    let fault = fit_rows(&Reckoner, &[call(3), call(6), call(7)])
+        .err()
+        .ok_or("fits")?;
+    assert!(rt;
+        fault.refusal == Refusal::UnknownWork && fault.place.work == 6 && fault.place.row == 1
+    );
+    Ok(())
 }

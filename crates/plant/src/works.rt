@@ -1,7 +1,7 @@
 ghost use Rattle.std.specs.Prelude.{◌≡◌, ◌^◌, ◌<◌, IfOk};
 ghost use Rattle.fault.specs.declared.refusal.Refusal.TheVariants.{UnknownWork};
 ghost use Rattle.plant.specs.Model.{Model, Apart, leaves};
-ghost use Rattle.plant.specs.Replies.{asked, replied, count_of, first_of, second_of};
+ghost use Rattle.plant.specs.Replies.{asked, admitted, replied, count_of, first_of, second_of};
 
 use fault::{Fault, Refusal, WorkPlace};
 
@@ -31,8 +31,7 @@ impl Words {
     {
         match self {
             Words::Nothing => 0,
-            Words::Single(a) => a,
-            Words::Pair(a, _) => a,
+            Words::Single(a) | Words::Pair(a, _) => a,
         }
     }
 
@@ -41,8 +40,8 @@ impl Words {
         ensures { result ≡ second_of self }
     {
         match self {
+            Words::Nothing | Words::Single(_) => 0,
             Words::Pair(_, b) => b,
-            _ => 0,
         }
     }
 }
@@ -60,6 +59,17 @@ pub trait Plant {
     fn knows(&self, station: u32, work: u32, count: u32) -> bool
         ensures { result ≡ model.known station work count };
 
+    // Refuses a work that is not known.
+    fn admit(&self, station: u32, work: u32, inputs: Words) -> Result<(), Fault<WorkPlace>>
+        ensures { result ≡ admitted model (asked station work inputs) }
+    {
+        if self.knows(station, work, inputs.count()) {
+            Ok(())
+        } else {
+            Err(unknown_work(station, work))
+        }
+    }
+
     // Does a work. One that is not known is refused, and the state stays as it was.
     fn perform(&mut self, station: u32, work: u32, inputs: Words) -> Result<u32, Fault<WorkPlace>>
         ensures answer { result ≡ replied model (meaning self.old) (asked station work inputs) }
@@ -68,7 +78,7 @@ pub trait Plant {
 }
 
 // The refusal of a work that is not known.
-pub(crate) fn unknown_work(station: u32, work: u32) -> Fault<WorkPlace>
+fn unknown_work(station: u32, work: u32) -> Fault<WorkPlace>
     ensures { result ≡ record { refusal = UnknownWork; place = record { station = station; work = work } } }
 {
     Fault {

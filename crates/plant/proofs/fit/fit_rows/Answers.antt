@@ -10,16 +10,16 @@ returns-in_err-fit_row g c =
     let m = g.P.Plant.model in
     let p = err_from_is_err_and c.from_residual.result c.from_residual.ensures.1 in
     let e : Err c.in_err-fit_row.field-0.0 ≡ fit_from m 0 c.args.rows.now =
-    sym (c.loop-i.invariant ∙ fit-more m c.args.rows.now c.loop-i.i _ _ (omega (arith, c.loop-i-test.true)) c.in_err-fit_row.ensures) in
+    sym (c.loop-at.invariant ∙ fit-more m c.args.rows.now c.loop-at.at _ _ (omega (arith, c.loop-at-test.true)) c.in_err-fit_row.ensures) in
     rw (p.1, p.2) record { value = e; means = fit-means m c.args.rows.now _ e }
 
-pub loop-i-preserved : goal.loop-i-preserved
-loop-i-preserved g c =
-    c.loop-i.invariant ∙ fit-more g.P.Plant.model c.args.rows.now c.loop-i.i _ _ (omega (arith, c.loop-i-test.true)) c.in_ok-fit_row.ensures
+pub loop-at-preserved : goal.loop-at-preserved
+loop-at-preserved g c =
+    c.loop-at.invariant ∙ fit-more g.P.Plant.model c.args.rows.now c.loop-at.at _ _ (omega (arith, c.loop-at-test.true)) c.in_ok-fit_row.ensures
 
 pub returns : goal.returns
 returns g c =
     let m = g.P.Plant.model in
     let e : Ok tt ≡ fit_from m 0 c.args.rows.now =
-    sym (c.loop-i.invariant ∙ at_drop_all (fit_from m c.loop-i.i) c.args.rows.now c.loop-i.i (omega (arith, c.loop-i-test.false))) in
+    sym (c.loop-at.invariant ∙ at_drop_all (fit_from m c.loop-at.at) c.args.rows.now c.loop-at.at (omega (arith, c.loop-at-test.false))) in
     record { value = e; means = fit-means m c.args.rows.now _ e }
