@@ -36,6 +36,29 @@ module _ (cycle : ℕ) (rows : List Row) (p : ℕ) where
       go (inl q) a = rw (cond-true _ (min (date_of (row_at rows n)) (first_among cycle rows p d n)) (first_among cycle rows p d n) q) (omega (arith, leb-true _ _ (and_parts (belongs p (row_at rows n)) _ q).1))
       go (inr q) a = rw (cond-false _ (min (date_of (row_at rows n)) (first_among cycle rows p d n)) (first_among cycle rows p d n) q) a
 
+  -- A first date before the end of the cycle is not before the date that was asked for.
+  pub first-late : (d n : ℕ) → first_among cycle rows p d n < cycle → d ≤ first_among cycle rows p d n
+  unfolding first_among
+  first-late d zero l = absurd (omega arith)
+  first-late d (suc n) l = go (cases_Bool (from d n)) (first-late d n) l
+    where
+      F : ℕ
+      F = first_among cycle rows p d n
+
+      D : ℕ
+      D = date_of (row_at rows n)
+
+      go : (from d n ≡ true) ⊎ (from d n ≡ false) → (F < cycle → d ≤ F) → cond (from d n) (min D F) F < cycle → d ≤ cond (from d n) (min D F) F
+      go (inl q) ih l =
+          let c : cond (from d n) (min D F) F ≡ min D F = cond-true _ _ _ q in
+          let m = leb-true _ _ (and_parts (belongs p (row_at rows n)) _ q).1 in
+          on (cases_lt F D) c m ih l
+        where
+          on : (F < D) ⊎ (D ≤ F) → cond (from d n) (min D F) F ≡ min D F → d ≤ D → (F < cycle → d ≤ F) → cond (from d n) (min D F) F < cycle → d ≤ cond (from d n) (min D F) F
+          on (inl a) c m ih l = let i = ih (omega arith) in omega arith
+          on (inr a) c m ih l = omega arith
+      go (inr q) ih l = let c : cond (from d n) (min D F) F ≡ F = cond-false _ _ _ q in let i = ih (omega arith) in omega arith
+
   pub some_more : (d n : ℕ) → some_due cycle rows p d (suc n) ≡ (is_due cycle rows p d n || some_due cycle rows p d n)
   unfolding some_due
   some_more d n = refl

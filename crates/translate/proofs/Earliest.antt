@@ -1,5 +1,5 @@
 -- The first of a program's dates in a span, as the least of those of its rows.
-use Rattle.std.proofs.Common.{◌≡◌, ℕ, zero, suc, ◌<◌, ◌≤◌, min, Bool, true, false, cond, ◌&&◌, ltb, leb, ◌⊎◌, List, [], ◌∷◌, ◌++◌, map, filter, length, take, Option, Some, None, MatchOption, IfSome, sym, refl, ap, ◌∙◌, inl, inr, append-nil, add-one, arith}
+use Rattle.std.proofs.Common.{◌≡◌, ℕ, zero, suc, ◌+◌, ◌<◌, ◌≤◌, min, Bool, true, false, cond, ◌&&◌, ltb, leb, ◌⊎◌, List, [], ◌∷◌, ◌++◌, map, filter, length, take, Option, Some, None, MatchOption, subst, sym, refl, ap, ◌∙◌, inl, inr, append-nil, add-one, arith}
 use Rattle.std.specs.List.{reduce, fold}
 use Rattle.std.proofs.lemmas.Bool.{cases_lt, lt-ltb, le-ltb}
 use Rattle.std.proofs.lemmas.List.{take_more, map-append}
@@ -8,8 +8,12 @@ use Rattle.std.proofs.lemmas.List.Elements.{filter-append}
 use Rattle.std.proofs.lemmas.List.Sums.{fold-append}
 use Rattle.sheet.specs.declared.row.Row.{Row}
 use Rattle.sheet.specs.Rows.{row_at, no_row}
-use Rattle.translate.specs.Translation.{belongs, date_of, is_date, first_among, first_date}
-use Rattle.translate.proofs.Dates.{first-none, first_more, first-date}
+use Rattle.translate.specs.declared.each_date.Dates.{Dates}
+use Rattle.translate.specs.declared.program.Program.{Program}
+use Rattle.translate.specs.Dates.{IsFirst, NextDate}
+use Rattle.translate.specs.Programs.{is_date_of, first_date_of}
+use Rattle.translate.specs.Translation.{belongs, date_of, first_among, first_date}
+use Rattle.translate.proofs.Dates.{first-none, first_more, first-late, first-date}
 
 least-of-none : (xs : List ℕ) (y : ℕ) → reduce min xs ≡ None → reduce min (xs ++ y ∷ []) ≡ Some y
 least-of-none [] y e = refl
@@ -71,36 +75,56 @@ module _ (cycle : ℕ) (rows : List Row) (p from until : ℕ) where
       ∙ least-so-far (length rows) u (omega arith)
 
 -- What is known of the first date in a span, where there is one and where there is none.
-module _ (cycle : ℕ) (rows : List Row) (p from until : ℕ) where
-  pub found : (r : Option ℕ) → r ≡ before until (first_date cycle rows p from) → MatchOption r (until ≤ first_date cycle rows p from) (λ date. date ≡ first_date cycle rows p from)
-  found r e = go r e (cases_lt (first_date cycle rows p from) until)
-    where
-      go : (r : Option ℕ) → r ≡ before until (first_date cycle rows p from) → (first_date cycle rows p from < until) ⊎ (until ≤ first_date cycle rows p from)
-          → MatchOption r (until ≤ first_date cycle rows p from) (λ date. date ≡ first_date cycle rows p from)
-      go None e (inl l) = absurd (unequal (e ∙ before-some until _ l))
-        where
-          unequal : None ≡ Some (first_date cycle rows p from) → ⊥
-          unequal q = cc
-      go None e (inr l) = l
-      go (Some d) e (inl l) = same (e ∙ before-some until _ l)
-        where
-          same : Some d ≡ Some (first_date cycle rows p from) → d ≡ first_date cycle rows p from
-          same q = cc
-      go (Some d) e (inr l) = absurd (unequal (e ∙ before-none until _ l))
-        where
-          unequal : Some d ≡ None → ⊥
-          unequal q = cc
+pub found : (p : Program) (from until : ℕ) (r : Option ℕ) → until ≤ p.cycle → r ≡ before until (first_date_of p from)
+    → MatchOption r (until ≤ first_date_of p from) (IsFirst p from until)
+found p from until r u e = go r e (cases_lt (first_date_of p from) until)
+  where
+    go : (r : Option ℕ) → r ≡ before until (first_date_of p from) → (first_date_of p from < until) ⊎ (until ≤ first_date_of p from)
+        → MatchOption r (until ≤ first_date_of p from) (IsFirst p from until)
+    go None e (inl l) = absurd (unequal (e ∙ before-some until _ l))
+      where
+        unequal : None ≡ Some (first_date_of p from) → ⊥
+        unequal q = cc
+    go None e (inr l) = l
+    go (Some d) e (inl l) = same (e ∙ before-some until _ l)
+      where
+        same : Some d ≡ Some (first_date_of p from) → IsFirst p from until d
+        same q =
+            let f : d ≡ first_date_of p from = cc in
+            record {
+              first = f;
+              late = omega (arith, first-late p.cycle p.rows.now p.number from (length p.rows.now) (omega arith));
+              early = omega arith;
+              own = ap (is_date_of p) f ∙ first-date p.cycle p.rows.now p.number from (omega arith);
+            }
+    go (Some d) e (inr l) = absurd (unequal (e ∙ before-none until _ l))
+      where
+        unequal : Some d ≡ None → ⊥
+        unequal q = cc
 
-  pub found-own : (r : Option ℕ) → until ≤ cycle → r ≡ before until (first_date cycle rows p from) → IfSome r (λ date. is_date cycle rows p date ≡ true)
-  found-own None u e = tt
-  found-own (Some d) u e = go (cases_lt (first_date cycle rows p from) until)
-    where
-      go : (first_date cycle rows p from < until) ⊎ (until ≤ first_date cycle rows p from) → is_date cycle rows p d ≡ true
-      go (inl l) = same (e ∙ before-some until _ l)
-        where
-          same : Some d ≡ Some (first_date cycle rows p from) → is_date cycle rows p d ≡ true
-          same q = let z : d ≡ first_date cycle rows p from = cc in ap (is_date cycle rows p) z ∙ first-date cycle rows p from (omega arith)
-      go (inr l) = absurd (unequal (e ∙ before-none until _ l))
-        where
-          unequal : Some d ≡ None → ⊥
-          unequal q = cc
+-- The begin of an iterator over the dates of program p before `until`.
+pub record Begins (p : Program) (until : ℕ) (s : Dates) : Type 0 where
+  pub program : s.program ≡ p
+  pub last : s.until ≡ until
+  pub from : s.from ≡ 0
+
+pub begins : (p : Program) (until : ℕ) (s d : Dates) → s ≡ d → d.program ≡ p → d.until ≡ until → d.from ≡ 0 → Begins p until s
+begins p until s d e f g h = record { program = ap (λ (x : Dates). x.program) e ∙ f; last = ap (λ (x : Dates). x.until) e ∙ g; from = ap (λ (x : Dates). x.from) e ∙ h }
+
+-- A step of an iterator over the dates of program p before `until`.
+pub record Goes (p : Program) (until : ℕ) (s t : Dates) (date : ℕ) : Type 0 where
+  pub program : t.program ≡ p
+  pub last : t.until ≡ until
+  pub is : IsFirst p s.from until date
+  pub next : t.from ≡ date + 1
+
+pub goes : (p : Program) (until : ℕ) (s t : Dates) (date : ℕ) → s.program ≡ p → s.until ≡ until → NextDate s (Some date) t → Goes p until s t date
+goes p until s t date e f n = record {
+  program = n.program ∙ e;
+  last = n.until ∙ f;
+  is = subst (λ (q : Program). IsFirst q s.from until date) e (subst (λ (u : ℕ). IsFirst s.program s.from u date) f n.first);
+  next = n.from;
+}
+
+pub ends : (p : Program) (until : ℕ) (s t : Dates) → s.program ≡ p → s.until ≡ until → NextDate s None t → until ≤ first_date_of p s.from
+ends p until s t e f n = subst (λ (q : Program). until ≤ first_date_of q s.from) e (subst (λ (u : ℕ). u ≤ first_date_of s.program s.from) f n.first)

@@ -6,7 +6,7 @@ use Rattle.sheet.specs.declared.row.Condition.{Condition}
 use Rattle.sheet.specs.declared.row.Condition.TheVariants.{Always, One, Two, Three, Four}
 use Rattle.sheet.specs.declared.row.Row.{Row}
 use Rattle.sheet.specs.declared.row.Row.TheVariants.{Keep as keep_row, Call as call_row, Send as send_row}
-use Rattle.sheet.specs.Rows.{tests_of, row_at}
+use Rattle.sheet.specs.Rows.{tests_of, condition_of, row_at}
 use Rattle.netcode.specs.declared.step.Step.{Step}
 use Rattle.netcode.specs.declared.step.Step.TheVariants.{Halt}
 use Rattle.translate.specs.Translation.{tests_in, end_of, act, is_due, is_date, first_date, row_length, rows_length, address, wait_for, tests_code, row_code, rows_code, code_to, preparation, opening_length, opening, program_code}
@@ -19,7 +19,13 @@ condition-few (Two a b) = omega arith
 condition-few (Three a b c) = omega arith
 condition-few (Four a b c d) = omega arith
 
-tests-few : (row : Row) → length (tests_in row) ≤ 4
+-- The tests of a row are those of its condition.
+pub tests-in : (row : Row) → tests_of (condition_of row) ≡ tests_in row
+tests-in (keep_row k) = refl
+tests-in (call_row c) = refl
+tests-in (send_row s) = refl
+
+pub tests-few : (row : Row) → length (tests_in row) ≤ 4
 tests-few (keep_row k) = omega arith
 tests-few (call_row c) = condition-few c.condition
 tests-few (send_row s) = condition-few s.condition

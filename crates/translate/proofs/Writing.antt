@@ -1,9 +1,14 @@
 -- Lists of steps that are filled.
-use Rattle.std.proofs.Common.{◌≡◌, ℕ, suc, ◌+◌, List, [], ◌∷◌, ◌++◌, length, set, sym, refl, ap, ◌∙◌, ap₂, add-zero, arith, length-append, length-set}
+use Rattle.std.proofs.Common.{◌≡◌, ℕ, suc, ◌+◌, ◌<◌, List, [], ◌∷◌, ◌++◌, length, take, set, sym, refl, ap, ◌∙◌, ap₂, subst, add-zero, arith, length-append, length-set}
+use Rattle.std.proofs.lemmas.List.{take_more}
+use Rattle.sheet.specs.declared.row.Test.{Test}
+use Rattle.sheet.specs.Rows.{test_at, no_test}
 use Rattle.netcode.specs.declared.step.Step.{Step}
+use Rattle.netcode.specs.declared.step.Step.TheVariants.{Test as test_step}
 use Rattle.translate.specs.declared.code.Code.{Code}
 use Rattle.translate.specs.Stores.{stored}
 use Rattle.translate.specs.Programs.{Writes}
+use Rattle.translate.specs.Translation.{tests_code}
 
 pub stored-append : {X : Type 0} (old : List X) (at : ℕ) (xs ys : List X) → stored old at (xs ++ ys) ≡ stored (stored old at xs) (at + length xs) ys
 stored-append old at [] ys = rw add-zero
@@ -33,3 +38,15 @@ writes_append a b c xs ys w v =
 -- The list keeps its length.
 pub writes_room : (a b : Code) (xs : List Step) → Writes a b xs → length b.steps.now ≡ length a.steps.now
 writes_room a b xs w = ap length w.list ∙ length-stored a.steps.now a.end xs
+
+tests_code-append : (xs ys : List Test) (to : ℕ) → tests_code (xs ++ ys) to ≡ tests_code xs to ++ tests_code ys to
+tests_code-append [] ys to = refl
+tests_code-append (x ∷ xs) ys to = ap (λ (s : List Step). test_step x.variable x.relation x.word to ∷ s) (tests_code-append xs ys to)
+
+-- One test more.
+pub writes_test : (a b c : Code) (ts : List Test) (i to : ℕ) → i < length ts → Writes a b (tests_code (take i ts) to) → Writes b c (tests_code (test_at ts i ∷ []) to)
+    → Writes a c (tests_code (take (i + 1) ts) to)
+writes_test a b c ts i to l w v =
+    let t = take_more ts i no_test l in
+    subst (Writes a c) (sym (ap (λ (xs : List Test). tests_code xs to) t ∙ tests_code-append (take i ts) (test_at ts i ∷ []) to))
+    (writes_append a b c (tests_code (take i ts) to) (tests_code (test_at ts i ∷ []) to) w v)

@@ -1,3 +1,4 @@
+pub mod Dates
 pub mod Laws
 pub mod Ordered
 pub mod Programs

@@ -29,10 +29,8 @@ impl Program<'_> {
         ensures { Writes code.old code.new (code_of self.now) }
     {
         self.put_opening(code);
-        let mut from = 0;
-        while let Some(date) = self.date_in(from, self.cycle) {
+        for date in self.dates(self.cycle) {
             self.put_block(code, date);
-            from = date + 1;
         }
     }
 

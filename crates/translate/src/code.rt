@@ -1,10 +1,10 @@
 ghost use Rattle.std.specs.Prelude.{◌+◌, ◌<◌, ◌≤◌, [], ◌∷◌, length};
 ghost use Rattle.netcode.specs.declared.step.Step.TheVariants.{Halt};
 ghost use Rattle.translate.specs.Programs.{Writes};
-ghost use Rattle.translate.specs.Translation.{tests_in, tests_code};
+ghost use Rattle.translate.specs.Translation.{tests_code};
 
 use netcode::Step;
-use sheet::{Condition, Row, Test};
+use sheet::Test;
 
 // A list of steps that is filled from its front, and where the next step goes.
 #[derive(Drop)]
@@ -32,42 +32,18 @@ impl Code<'_> {
         self.put(Step::Halt);
     }
 
-    // A test that goes to `to` where it fails.
-    fn put_test(&mut self, test: Test, to: u32)
-        requires { self.old.end < length self.old.steps.now }
-        ensures { Writes self.old self.new (tests_code (test ∷ []) to) }
+    // Tests that go to `to` where they fail.
+    pub fn put_tests(&mut self, tests: &[Test], to: u32)
+        requires { self.old.end + length tests.now ≤ length self.old.steps.now }
+        ensures { Writes self.old self.new (tests_code tests.now to) }
     {
-        self.put(Step::Test {
-            variable: test.variable,
-            relation: test.relation,
-            word: test.word,
-            address: to,
-        });
-    }
-
-    // The tests of a row.
-    pub fn put_tests(&mut self, row: Row, to: u32)
-        requires { self.old.end + length (tests_in row) ≤ length self.old.steps.now }
-        ensures { Writes self.old self.new (tests_code (tests_in row) to) }
-    {
-        match crate::row::condition_of(row) {
-            Condition::Always => {}
-            Condition::One(a) => self.put_test(a, to),
-            Condition::Two(a, b) => {
-                self.put_test(a, to);
-                self.put_test(b, to);
-            }
-            Condition::Three(a, b, c) => {
-                self.put_test(a, to);
-                self.put_test(b, to);
-                self.put_test(c, to);
-            }
-            Condition::Four(a, b, c, d) => {
-                self.put_test(a, to);
-                self.put_test(b, to);
-                self.put_test(c, to);
-                self.put_test(d, to);
-            }
+        for test in tests {
+            self.put(Step::Test {
+                variable: test.variable,
+                relation: test.relation,
+                word: test.word,
+                address: to,
+            });
         }
     }
 }

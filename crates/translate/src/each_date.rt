@@ -1,10 +1,22 @@
-ghost use Rattle.std.specs.Prelude.{◌≤◌, ◌<◌, ◌≡◌, true, IfSome, MatchOption};
-ghost use Rattle.translate.specs.Programs.{is_date_of, first_date_of};
+ghost use Rattle.std.specs.Prelude.{◌≤◌};
 
 use crate::program::Program;
 use crate::row::date_of;
 
-impl Program<'_> {
+// The dates of a program from `from` on and before `until`.
+#[derive(Drop)]
+pub struct Dates<'a> {
+    program: Program<'a>,
+    from: u32,
+    until: u32,
+    ghost within: { until ≤ program.cycle },
+}
+
+impl<'a> Program<'a> {
+    ghost use Rattle.std.specs.Prelude.{◌≤◌, ◌≡◌, MatchOption};
+    ghost use Rattle.translate.specs.Programs.{is_date_of, first_date_of};
+    ghost use Rattle.translate.specs.Dates.{IsFirst};
+
     // Whether a date is one of its own.
     pub fn has_date(&self, date: u32) -> bool
         ensures { result ≡ is_date_of self.now date }
@@ -15,9 +27,7 @@ impl Program<'_> {
     // The first of its dates from `from` on and before `until`.
     pub fn date_in(&self, from: u32, until: u32) -> Option<u32>
         requires { until ≤ self.now.cycle }
-        ensures first { MatchOption result (until ≤ first_date_of self.now from) (λ date. date ≡ first_date_of self.now from) }
-        ensures within { IfSome result (λ date. (from ≤ date) × (date < until)) }
-        ensures own { IfSome result (λ date. is_date_of self.now date ≡ true) }
+        ensures { MatchOption result (until ≤ first_date_of self.now from) (IsFirst self.now from until) }
     {
         self.rows
             .iter()
@@ -25,5 +35,37 @@ impl Program<'_> {
             .map(|row| date_of(*row))
             .filter(|date| from <= *date && *date < until)
             .min()
+    }
+
+    // Its dates before `until`.
+    pub fn dates(&self, until: u32) -> Dates<'a>
+        requires { until ≤ self.now.cycle }
+        ensures program { result.program ≡ self.now }
+        ensures from { result.from ≡ 0 }
+        ensures until { result.until ≡ until }
+    {
+        Dates {
+            program: *self,
+            from: 0,
+            until,
+        }
+    }
+}
+
+impl Iterator for Dates<'_> {
+    ghost use Rattle.std.specs.Prelude.{◌-◌};
+    ghost use Rattle.std.specs.Iterator.{at_most};
+    ghost use Rattle.translate.specs.Dates.{NextDate};
+
+    type Item = u32;
+
+    ghost next_gives = { NextDate };
+
+    ghost remaining = { λ s. at_most (s.until - s.from) };
+
+    fn next(&mut self) -> Option<u32> {
+        let date = self.program.date_in(self.from, self.until)?;
+        self.from = date + 1;
+        Some(date)
     }
 }

@@ -13,12 +13,7 @@ pub fn all_lengths(head: Head, rows: &[Row]) -> usize
 {
     let mut sum = 0;
     for number in 0..program_count(head.stations) {
-        let program = Program {
-            rows,
-            cycle: head.cycle,
-            number: number as u32,
-        };
-        sum += program.length();
+        sum += Program::new(head, rows, number as u32).length();
     }
     sum
 }
@@ -33,12 +28,7 @@ pub fn put_programs(head: Head, rows: &[Row], steps: &mut [Step]) -> [usize; 16]
     let mut lengths = [0; 16];
     let mut at = 0;
     for number in 0..program_count(head.stations) {
-        let program = Program {
-            rows,
-            cycle: head.cycle,
-            number: number as u32,
-        };
-        let length = program.put(&mut steps[at..]);
+        let length = Program::new(head, rows, number as u32).put(&mut steps[at..]);
         lengths[number] = length;
         at += length;
     }

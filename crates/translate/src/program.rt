@@ -6,7 +6,7 @@ ghost use Rattle.translate.specs.Translation.{date_of, is_line, belongs, act};
 use crate::row::date_of;
 use judge::is_listener;
 use netcode::{Step, line_program, station_of};
-use sheet::{Keep, Row};
+use sheet::{Head, Keep, Row};
 
 // A program of a sheet that keeps its limits: the sheet's rows, its cycle, and the program's number.
 #[derive(Clone, Copy)]
@@ -17,11 +17,25 @@ pub struct Program<'a> {
     ghost bounded: { Bounded cycle rows.now },
 }
 
-impl Program<'_> {
+impl<'a> Program<'a> {
     ghost use Rattle.std.specs.Prelude.{◌≡◌, ◌&&◌, ◌==◌};
     ghost use Rattle.netcode.specs.Layouts.{station_of};
-    ghost use Rattle.translate.specs.Programs.{kept_in};
-    ghost use Rattle.translate.specs.Translation.{date_of, is_line, belongs, act};
+    ghost use Rattle.translate.specs.Stores.{Bounded};
+    ghost use Rattle.translate.specs.Programs.{kept_in, code_of};
+    ghost use Rattle.translate.specs.Translation.{date_of, is_line, belongs, act, program_code};
+
+    // Program `number` of a sheet.
+    pub fn new(head: Head, rows: &'a [Row], number: u32) -> Program<'a>
+        requires { Bounded head.cycle rows.now }
+        ensures code { code_of result ≡ program_code head.cycle rows.now number }
+        ensures cycle { result.cycle ≡ head.cycle }
+    {
+        Program {
+            rows,
+            cycle: head.cycle,
+            number,
+        }
+    }
 
     // Its station.
     pub fn station(&self) -> u32

@@ -5,7 +5,7 @@ ghost use Rattle.translate.specs.Translation.{end_of, tests_in, tests_code, act}
 
 use crate::code::Code;
 use crate::program::Program;
-use crate::row::{end_of, row_length};
+use crate::row::end_of;
 use netcode::Step;
 use sheet::Row;
 
@@ -38,7 +38,8 @@ impl Program<'_> {
         ensures { Writes code.old code.new (tests_code (tests_in row) (code.old.end + (length (tests_in row) + 3)) ++ (wait_of self.now date (end_of row) ∷ act self.now.number number row ∷ Halt ∷ [])) }
     {
         let wait = self.wait_step(date, end_of(row));
-        code.put_tests(row, (code.end + row_length(row)) as u32);
+        let tests = row.condition().tests();
+        code.put_tests(tests.as_slice(), (code.end + tests.len() + 3) as u32);
         code.put(wait);
         code.put(self.act(number, row));
         code.put(Step::Halt);

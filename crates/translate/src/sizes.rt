@@ -58,10 +58,8 @@ impl Program<'_> {
         ensures few { result ≤ 259 + 898 * date }
     {
         let mut place = self.opening_length();
-        let mut from = 0;
-        while let Some(earlier) = self.date_in(from, date) {
+        for earlier in self.dates(date) {
             place += self.rows_length(earlier) + 2;
-            from = earlier + 1;
         }
         place
     }

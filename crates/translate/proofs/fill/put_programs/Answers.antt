@@ -1,4 +1,4 @@
-use Rattle.std.proofs.Common.{ℕ, ◌+◌, ◌-◌, List, map, length, set, sym, ap, ◌∙◌, ap₂, arith, length-set}
+use Rattle.std.proofs.Common.{ℕ, ◌+◌, ◌-◌, List, map, length, take, drop, set, sym, ap, ◌∙◌, ap₂, arith, length-set}
 use Rattle.netcode.specs.declared.step.Step.{Step}
 use Rattle.netcode.specs.Layouts.{program_count}
 use Rattle.translate.specs.Stores.{stored, steps_of}
@@ -14,6 +14,7 @@ put-length-requires c =
     let more = length_more c.args.head.cycle c.args.rows.now l.number (program_count c.args.head.stations) (omega arith) in
     let room = l.invariant.room in
     let left = length-part l.steps l.at in
+    let code = ap length c.new.ensures.code in
     omega arith
 
 pub overflow_add-at : goal.overflow_add-at
@@ -21,7 +22,7 @@ overflow_add-at c =
     let l = c.loop-number in
     let more = length_more c.args.head.cycle c.args.rows.now l.number (program_count c.args.head.stations) (omega arith) in
     let room = l.invariant.room in
-    let e = c.put-length.ensures.end in
+    let e = c.put-length.ensures.end ∙ ap length c.new.ensures.code in
     omega arith
 
 pub loop-number-preserved : goal.loop-number-preserved
@@ -31,11 +32,12 @@ loop-number-preserved c =
     let n = program_count c.args.head.stations in
     let rest = programs_from c.args.head.cycle rows (l.number + 1) (n - (l.number + 1)) in
     let w = c.put-length.ensures in
-    let end = w.end in
+    let code = c.new.ensures.code in
+    let end = w.end ∙ ap length code in
     let more = length_more c.args.head.cycle rows l.number n (omega arith) in
     let long = l.invariant.long in
     let room = l.invariant.room in
-    let whole = ap (put_mid l.at (length l.steps - l.at) l.steps) w.list ∙ stored-part l.steps (program_code c.args.head.cycle rows l.number) l.at (omega arith) in
+    let whole = ap (put_mid l.at (length l.steps - l.at) l.steps) (w.list ∙ ap (stored (take (length l.steps - l.at) (drop l.at l.steps)) 0) code) ∙ stored-part l.steps (program_code c.args.head.cycle rows l.number) l.at (omega arith) in
     let same = ap length whole ∙ length-stored l.steps l.at (program_code c.args.head.cycle rows l.number) in
     record {
       list = l.invariant.list ∙ steps-more c.args.head.cycle rows l.number n l.at l.steps (omega arith)

@@ -1,25 +1,15 @@
-use Rattle.std.proofs.Common.{◌≡◌, rules, tests, sym, ◌∙◌}
+use Rattle.std.proofs.Common.{rules, tests, sym, ◌∙◌}
 use Rattle.std.proofs.lemmas.Iterator.{YieldsList-from_slice, YieldsList-from_map}
 use Rattle.std.proofs.lemmas.Iterator.Adapters.{option_map_id}
 use Rattle.std.proofs.lemmas.Iterator.Consumers.{YieldsList-at, YieldsList-from_filter, min_from_yields_List}
-use Rattle.translate.specs.Programs.{first_date_of}
 use Rattle.translate.specs.Translation.{date_of, belongs}
-use Rattle.translate.proofs.Earliest.{before, within, least-date, found, found-own}
+use Rattle.translate.proofs.Earliest.{within, least-date, found}
 use Rattle.translate.proofs.program.Program.date_in.Goals as goal
 
-least : (c : goal.After-min) → c.min.result ≡ before c.args.until (first_date_of c.args.self.now c.args.from)
-least c =
+pub returns : goal.returns
+returns c =
     let p = c.args.self.now in
-    sym (option_map_id c.min.result)
+    found p c.args.from c.args.until c.min.result c.requires
+    (sym (option_map_id c.min.result)
     ∙ min_from_yields_List _ _ c.min.ensures.ran (YieldsList-from_filter _ (within c.args.from c.args.until) (YieldsList-at c.filter-2.ensures.source (YieldsList-from_map _ date_of (YieldsList-at c.map.ensures.source (YieldsList-from_filter _ (belongs p.number) (YieldsList-at c.filter.ensures.source (YieldsList-from_slice p.rows.now c.iter.ensures.rest)) c.filter.ensures.closure (λ x r q k. search (rules, tests)))) c.map.ensures.closure (λ x r q k. search (rules, tests)))) c.filter-2.ensures.closure (λ x r q k. search (rules, tests)))
-    ∙ least-date p.cycle p.rows.now p.number c.args.from c.args.until c.requires
-
-pub returns-clause-first : goal.returns-clause-first
-returns-clause-first c =
-    let p = c.args.self.now in
-    found p.cycle p.rows.now p.number c.args.from c.args.until c.min.result (least c)
-
-pub returns-clause-own : goal.returns-clause-own
-returns-clause-own c =
-    let p = c.args.self.now in
-    found-own p.cycle p.rows.now p.number c.args.from c.args.until c.min.result c.requires (least c)
+    ∙ least-date p.cycle p.rows.now p.number c.args.from c.args.until c.requires)
