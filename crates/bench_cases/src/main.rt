@@ -7,7 +7,7 @@ ghost use Rattle.std.specs.Iterator.{at_most};
 
 use bench::Run;
 use cases::next_part;
-use fault::{Fault, Place, TickPlace};
+use fault::{Fault, TickPlace};
 use mark_text::{MarkLine, WordText};
 use netcode::Step;
 use plant::{Panel, Plant, Reckoner, Script};
@@ -15,23 +15,12 @@ use semantics::{Reply, Request};
 use std::fs;
 use text::RefusedLine;
 
-fn print_fault(rt: &HostRuntime, fault: Fault<Place>) -> anyhow::Result<()> {
-    rt.print(RefusedLine(fault))?;
-    Ok(())
-}
-
-fn print_refusal(rt: &HostRuntime, fault: Fault<Place>) -> anyhow::Result<()> {
-    print_fault(rt, fault)?;
-    rt.println("")?;
-    Ok(())
-}
-
 fn print_made(rt: &HostRuntime, count: u32, ended: Option<Fault<TickPlace>>) -> anyhow::Result<()> {
     rt.print("made ")?;
     rt.print(count)?;
     if let Some(fault) = ended {
         rt.print(" ")?;
-        print_fault(rt, fault.carried())?;
+        rt.print(RefusedLine(fault.carried()))?;
     }
     Ok(())
 }
@@ -39,7 +28,7 @@ fn print_made(rt: &HostRuntime, count: u32, ended: Option<Fault<TickPlace>>) -> 
 fn print_reply(rt: &HostRuntime, request: Request, reply: Reply) -> anyhow::Result<()> {
     match reply {
         Reply::Granted => rt.print("granted")?,
-        Reply::Refused(fault) => print_fault(rt, fault.carried())?,
+        Reply::Refused(fault) => rt.print(RefusedLine(fault.carried()))?,
         Reply::Made { count, ended } => print_made(rt, count, ended)?,
         Reply::Word(word) => rt.print(WordText(word))?,
         Reply::Mark(mark) => {
@@ -49,7 +38,7 @@ fn print_reply(rt: &HostRuntime, request: Request, reply: Reply) -> anyhow::Resu
             };
             rt.print(MarkLine { row, mark })?
         }
-        Reply::Outside(fault) => print_fault(rt, fault.carried())?,
+        Reply::Outside(fault) => rt.print(RefusedLine(fault.carried()))?,
     }
     Ok(())
 }
@@ -164,7 +153,7 @@ fn with_plant(rt: &HostRuntime, run: Run, case: Case) -> anyhow::Result<()> {
         PlantKind::Panel => serve_case(rt, run, &mut Panel::new(), case.requests),
         PlantKind::Script => match Script::read(case.script) {
             Ok(mut words) => serve_case(rt, run, &mut words, case.requests),
-            Err(fault) => print_refusal(rt, fault.carried()),
+            Err(fault) => Ok(rt.println(RefusedLine(fault.carried()))?),
         },
     }
 }
@@ -173,11 +162,11 @@ fn run_case(rt: &HostRuntime, case: Case) -> anyhow::Result<()> {
     let mut steps = vec![in rt.alloc(); Step::Halt; 32768]?;
     let layout = match programs::read(case.file, steps.as_mut_slice()) {
         Ok(layout) => layout,
-        Err(fault) => return print_refusal(rt, fault.carried()),
+        Err(fault) => return Ok(rt.println(RefusedLine(fault.carried()))?),
     };
     match Run::make(layout, steps) {
         Ok(run) => with_plant(rt, run, case),
-        Err((_, _, fault)) => print_refusal(rt, fault.carried()),
+        Err((_, _, fault)) => Ok(rt.println(RefusedLine(fault.carried()))?),
     }
 }
 

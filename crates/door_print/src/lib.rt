@@ -2,7 +2,6 @@
 
 // What the door prints, for the programs that print it. It reads nothing: table and script are handed in as bytes.
 use bench::Run;
-use fault::{Fault, Place};
 use mark_text::MarkLine;
 use netcode::Step;
 use plant::Script;
@@ -11,11 +10,6 @@ use semantics::{Reply, Request};
 use sheet::Row;
 use stages::{Accepted, Draft};
 use text::RefusedLine;
-
-fn print_refusal(rt: &HostRuntime, fault: Fault<Place>) -> anyhow::Result<()> {
-    rt.println(RefusedLine(fault))?;
-    Ok(())
-}
 
 fn print_marks(rt: &HostRuntime, run: &Run, rows: u32, between: &str) -> anyhow::Result<()> {
     rt.print("row count tick read read given")?;
@@ -44,7 +38,7 @@ fn rehearse(
     let mut replies = [Reply::Granted];
     match run_sheet(sheet, steps, &mut script, &requests, &mut replies) {
         Ok(run) => print_marks(rt, &run, head.rows, between),
-        Err(kept) => print_refusal(rt, kept.fault),
+        Err(kept) => Ok(rt.println(RefusedLine(kept.fault))?),
     }
 }
 
@@ -59,14 +53,14 @@ pub fn print_rehearsal(
     let rows = vec![in rt.alloc(); Row::default(); 128]?;
     let draft = match Draft::read(table, rows) {
         Ok(draft) => draft,
-        Err((_, fault)) => return print_refusal(rt, fault.carried()),
+        Err((_, fault)) => return Ok(rt.println(RefusedLine(fault.carried()))?),
     };
     let words = match Script::read(script) {
         Ok(words) => words,
-        Err(fault) => return print_refusal(rt, fault.carried()),
+        Err(fault) => return Ok(rt.println(RefusedLine(fault.carried()))?),
     };
     match draft.accept() {
         Ok(sheet) => rehearse(rt, sheet, words, between),
-        Err((_, fault)) => print_refusal(rt, fault.carried()),
+        Err((_, fault)) => Ok(rt.println(RefusedLine(fault.carried()))?),
     }
 }

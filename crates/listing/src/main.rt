@@ -2,7 +2,6 @@
 
 // Prints the sheet in the file `table` for a person: the head, a line for each row, what was found, and the programs of
 // an accepted sheet with a line for each step.
-use fault::{Fault, Place};
 use netcode::{Layout, Step, line_program, station_of};
 use sheet::Row;
 use stages::{Accepted, Draft};
@@ -15,11 +14,6 @@ fn print_rows(rt: &HostRuntime, rows: &[Row]) -> anyhow::Result<()> {
     for (number, row) in rows.iter().enumerate() {
         rt.println(RowLine { number, row: *row })?;
     }
-    Ok(())
-}
-
-fn print_refusal(rt: &HostRuntime, fault: Fault<Place>) -> anyhow::Result<()> {
-    rt.println(RefusedLine(fault))?;
     Ok(())
 }
 
@@ -60,7 +54,7 @@ fn print_accepted(rt: &HostRuntime, sheet: Accepted) -> anyhow::Result<()> {
     let steps = vec![in rt.alloc(); Step::Halt; 32768]?;
     match translate(sheet, steps) {
         Ok(translated) => print_programs(rt, &translated.layout(), translated.steps()),
-        Err((_, _, fault)) => print_refusal(rt, fault.carried()),
+        Err((_, _, fault)) => Ok(rt.println(RefusedLine(fault.carried()))?),
     }
 }
 
@@ -68,7 +62,7 @@ fn list(rt: &HostRuntime, bytes: &[u8]) -> anyhow::Result<()> {
     let rows = vec![in rt.alloc(); Row::default(); 128]?;
     let draft = match Draft::read(bytes, rows) {
         Ok(draft) => draft,
-        Err((_, fault)) => return print_refusal(rt, fault.carried()),
+        Err((_, fault)) => return Ok(rt.println(RefusedLine(fault.carried()))?),
     };
     let head = draft.head();
     rt.println(HeadLine(head))?;
@@ -79,7 +73,7 @@ fn list(rt: &HostRuntime, bytes: &[u8]) -> anyhow::Result<()> {
     })?;
     match draft.accept() {
         Ok(sheet) => print_accepted(rt, sheet),
-        Err((_, fault)) => print_refusal(rt, fault.carried()),
+        Err((_, fault)) => Ok(rt.println(RefusedLine(fault.carried()))?),
     }
 }
 

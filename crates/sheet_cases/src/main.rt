@@ -3,16 +3,10 @@
 // Judges the sheets in the file `cases`, one after the other: each is its length, two bytes, and its bytes.
 // A line for each: `accepted` or its refusal; `differs` where it is read and not written back unchanged.
 use cases::Parts;
-use fault::{Fault, Place};
 use sheet::Row;
 use stages::Draft;
 use std::fs;
 use text::RefusedLine;
-
-fn print_refusal(rt: &HostRuntime, fault: Fault<Place>) -> anyhow::Result<()> {
-    rt.println(RefusedLine(fault))?;
-    Ok(())
-}
 
 // Whether the draft is written as just these bytes.
 fn written_back(rt: &HostRuntime, draft: &Draft, bytes: &[u8]) -> anyhow::Result<bool> {
@@ -25,13 +19,13 @@ fn judge_case(rt: &HostRuntime, bytes: &[u8]) -> anyhow::Result<()> {
     let rows = vec![in rt.alloc(); Row::default(); 128]?;
     let draft = match Draft::read(bytes, rows) {
         Ok(draft) => draft,
-        Err((_, fault)) => return print_refusal(rt, fault.carried()),
+        Err((_, fault)) => return Ok(rt.println(RefusedLine(fault.carried()))?),
     };
     if !written_back(rt, &draft, bytes)? {
         rt.println("differs")?;
     }
     if let Err((_, fault)) = draft.accept() {
-        return print_refusal(rt, fault.carried());
+        return Ok(rt.println(RefusedLine(fault.carried()))?);
     }
     rt.println("accepted")?;
     Ok(())
