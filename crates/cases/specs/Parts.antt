@@ -1,5 +1,6 @@
 use Rattle.std.specs.Prelude.{◌≡◌, ℕ, ◌+◌, ◌-◌, ◌*◌, cond, List, length, take, drop, Some, None, Option, nat_lt, slice_index}
 use Rattle.std.specs.Borrow.{Bor}
+use Rattle.std.specs.Option.{option_and_then}
 
 -- The length that two bytes tell, the low one first.
 abbrev pub size_in : List ℕ → ℕ
@@ -22,14 +23,9 @@ abbrev pub GivesPart : List ℕ → Option (Bor (List ℕ)) → List ℕ → Typ
 GivesPart bs None left = (part_in bs ≡ None) × (left ≡ bs)
 GivesPart bs (Some x) left = part_in bs ≡ Some (x.now, left)
 
--- What follows on a value that was found, or nothing.
-abbrev pub and_next : {A B : Type 0} → Option A → (A → Option B) → Option B
-and_next None k = None
-and_next (Some a) k = k a
-
 -- Two parts, one after the other.
 abbrev pub pair_in : List ℕ → Option ((List ℕ × List ℕ) × List ℕ)
-pair_in bs = and_next (part_in bs) (λ p. and_next (part_in p.1) (λ q. Some ((p.0, q.0), q.1)))
+pair_in bs = option_and_then (λ p. option_and_then (λ q. Some ((p.0, q.0), q.1)) (part_in p.1)) (part_in bs)
 
 -- The same of the next two parts.
 abbrev pub GivesPair : List ℕ → Option (Bor (List ℕ) × Bor (List ℕ)) → List ℕ → Type 0
