@@ -71,19 +71,7 @@ fn put_row(out: &mut [u8], at: usize, row: Row) -> usize
     ensures end { result ≡ at + length (spelled (row_numbers row)) }
     ensures bytes { out.new ≡ take at out.old ++ (spelled (row_numbers row) ++ drop (at + length (spelled (row_numbers row))) out.old) }
 {
-    put_fitting(out, at, row_numbers(row).as_slice())
-}
-
-// Writes numbers where there is room for them, and says where they end.
-fn put_fitting(out: &mut [u8], at: usize, numbers: &[u32]) -> usize
-    requires { at + length (spelled numbers.now) ≤ length out.old }
-    ensures end { result ≡ at + length (spelled numbers.now) }
-    ensures bytes { out.new ≡ placed out.old at (spelled numbers.now) }
-{
-    match put_numbers(out, at, numbers) {
-        Ok(end) => end,
-        Err(_) => at,
-    }
+    put_numbers(out, at, row_numbers(row).as_slice()).unwrap_or(at)
 }
 
 // How many bytes the rows take.
@@ -125,7 +113,7 @@ pub fn write(head: &Head, rows: &[Row], out: &mut [u8]) -> Result<usize, Fault<B
     if (out.len() as u128) < size {
         return Err(too_short(size as u64));
     }
-    let next = put_fitting(out, 0, &front);
+    let next = put_numbers(out, 0, &front).unwrap_or(0);
     Ok(put_rows(out, next, rows))
 }
 

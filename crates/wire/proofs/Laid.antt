@@ -1,8 +1,8 @@
 -- Numbers written one after the other.
-use Rattle.std.proofs.Common.{◌≡◌, ℕ, ◌+◌, ◌<◌, ◌≤◌, List, [], ◌∷◌, ◌++◌, length, get_or, take, drop, sym, refl, ap, ◌∙◌, append_assoc, append-nil, add-zero, arith, length-append, length-drop, take-append-drop, length-take}
+use Rattle.std.proofs.Common.{◌≡◌, ℕ, ◌+◌, ◌<◌, ◌≤◌, List, [], ◌∷◌, ◌++◌, length, get_or, take, drop, Ok, sym, refl, ap, ◌∙◌, append_assoc, append-nil, add-zero, arith, length-append, length-drop, take-append-drop, length-take}
 use Rattle.std.proofs.lemmas.List.{drop-drop, drop_at, take_at, take_more, drop_more}
 use Rattle.std.proofs.lemmas.Bool.{le-ltb}
-use Rattle.wire.specs.Bytes.{bytes_of, spelled, placed}
+use Rattle.wire.specs.Bytes.{bytes_of, spelled, end_of, placed}
 
 pub spelled-append : (ns ms : List ℕ) → spelled (ns ++ ms) ≡ spelled ns ++ spelled ms
 spelled-append [] ms = refl
@@ -46,6 +46,9 @@ placed-more out at xs ys h =
 
 pub nothing_placed : (out : List ℕ) (at : ℕ) → take at out ++ ([] ++ drop (at + 0) out) ≡ out
 nothing_placed out at = rw add-zero (take-append-drop at out)
+
+pub end-room : (room at : ℕ) (xs : List ℕ) → at + length xs ≤ room → end_of room at xs ≡ Ok (at + length xs)
+end-room room at xs h = rw (le-ltb room (at + length xs) h)
 
 pub placed-room : (out : List ℕ) (at : ℕ) (xs : List ℕ) → at + length xs ≤ length out
     → placed out at xs ≡ take at out ++ (xs ++ drop (at + length xs) out)

@@ -27,7 +27,8 @@ fn groups(bytes: &[u8], left: u8, first: bool) -> Result<(u32, usize), Refusal>
     Ok((u32::from(b - 128) + 128 * high, count + 1))
 }
 
-// Bytes that are read from the front, number by number.
+// Bytes that are read from the front, number by number. Whoever reads on says that the bytes stay the same (`same`, in each
+// contract): that is said of a reader before and after a call, which no ghost field of one value can say.
 #[derive(Drop)]
 pub struct Reader<'a> {
     bytes: &'a [u8],

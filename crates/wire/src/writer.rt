@@ -33,7 +33,8 @@ pub fn number_bytes(n: u32) -> ArrayVec<u8, 5>
     bytes
 }
 
-// Writes `n` at `at`, and says where it ends. A list that is too short is left as it was.
+// Writes `n` at `at`, and says where it ends. A list that is too short is left as it was, and the count of bytes is
+// told. (The count is a number and no code: `Err(NoRoom { needed })` would say no more than the clause `end`.)
 pub fn put_number(out: &mut [u8], at: usize, n: u32) -> Result<usize, usize>
     ensures end { result ≡ end_of (length out.old) at (bytes_of n) }
     ensures bytes { out.new ≡ placed out.old at (bytes_of n) }
@@ -71,18 +72,6 @@ pub fn put_numbers(out: &mut [u8], at: usize, numbers: &[u32]) -> Result<usize, 
     Ok(lay(out, at, numbers))
 }
 
-// Writes a number where there is room for it.
-fn put_fitting(out: &mut [u8], at: usize, n: u32) -> usize
-    requires { at + length (bytes_of n) ≤ length out.old }
-    ensures end { result ≡ at + length (bytes_of n) }
-    ensures bytes { out.new ≡ placed out.old at (bytes_of n) }
-{
-    match put_number(out, at, n) {
-        Ok(end) => end,
-        Err(_) => at,
-    }
-}
-
 // Writes numbers where there is room for them.
 fn lay(out: &mut [u8], at: usize, numbers: &[u32]) -> usize
     requires { at + length (spelled numbers.now) ≤ length out.old }
@@ -91,7 +80,7 @@ fn lay(out: &mut [u8], at: usize, numbers: &[u32]) -> usize
 {
     let mut next = at;
     for n in numbers {
-        next = put_fitting(out, next, *n);
+        next = put_number(out, next, *n).unwrap_or(next);
     }
     next
 }

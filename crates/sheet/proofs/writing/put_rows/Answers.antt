@@ -1,8 +1,6 @@
-use Rattle.std.proofs.Common.{◌≡◌, ℕ, ◌+◌, ◌≤◌, List, ◌++◌, length, take, drop, sym, ap, ◌∙◌, add-zero, arith, length-append}
-use Rattle.std.proofs.lemmas.List.{take_all}
+use Rattle.std.proofs.Common.{◌≡◌, ℕ, ◌+◌, ◌≤◌, List, ◌++◌, length, take, drop, sym, ap, ◌∙◌, arith, length-append}
 use Rattle.wire.specs.Bytes.{spelled, placed}
-use Rattle.wire.proofs.Laid.{placed-more, placed-room, nothing_placed}
-use Rattle.sheet.specs.declared.row.Row.{Row}
+use Rattle.wire.proofs.Laid.{placed-more, placed-room}
 use Rattle.sheet.specs.Rows.{row_at}
 use Rattle.sheet.specs.Forms.{row_numbers}
 use Rattle.sheet.proofs.RowSizes.{form, form-more, form-split, form-first}
@@ -14,9 +12,6 @@ put_row-next-requires c =
     let i = c.loop-row.row-index in
     let o : length c.loop-row.out ≡ length c.args.out.now = omega arith in
     omega (arith, c.loop-row.invariant.0, form-split rs i, form-first rs i c.loop-row-test.true, c.requires)
-
-pub loop-row-init : goal.loop-row-init
-loop-row-init c = (sym (add-zero c.args.at), sym (nothing_placed c.args.out.now c.args.at))
 
 pub loop-row-preserved : goal.loop-row-preserved
 loop-row-preserved c =
@@ -39,12 +34,3 @@ loop-row-preserved c =
       omega (arith, f.end, c.loop-row.invariant.0, ap length e, length-append xs ys),
       step ∙ placed-more out at xs ys room ∙ ap (λ (zs : List ℕ). take at out ++ (zs ++ drop (at + length zs) out)) (sym e),
     )
-
-pub returns : goal.returns
-returns c =
-    let rs = c.args.rows.now in
-    let all = take_all c.loop-row.row-index rs c.loop-row-test.false in
-    record {
-      end = c.loop-row.invariant.0 ∙ ap (λ (xs : List Row). c.args.at + length (form xs)) all;
-      bytes = c.loop-row.invariant.1 ∙ ap (λ (xs : List Row). take c.args.at c.args.out.now ++ (form xs ++ drop (c.args.at + length (form xs)) c.args.out.now)) all;
-    }
