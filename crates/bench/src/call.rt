@@ -1,9 +1,8 @@
 ghost use Rattle.std.specs.Prelude.{◌<◌, ◌≤◌};
-ghost use Rattle.netcode.specs.Laws.{InputsWithin};
 
 use sheet::Inputs;
 
-// The fields of a CALL, within their limits.
+// The fields of a CALL, within the limits of a row and a duration.
 #[derive(Clone, Copy)]
 pub struct Call {
     pub(crate) row: u32,
@@ -12,6 +11,5 @@ pub struct Call {
     pub(crate) output: u32,
     pub(crate) duration: u32,
     ghost marked: { row < 128 },
-    ghost within: { ∥ InputsWithin inputs ∥₁ },
     ghost short: { duration ≤ 65535 },
 }
