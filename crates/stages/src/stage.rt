@@ -38,6 +38,8 @@ fn read_into(bytes: &[u8], rows: &mut Vec<Row>) -> Result<Head, Fault<BytesPlace
 }
 
 impl Draft {
+    ghost use Rattle.stages.specs.Views.{draft_head, draft_rows, accepted_draft};
+
     // A sheet with this head whose rows stand at the front of the list; the list comes back with a refusal.
     pub fn of(head: Head, rows: Vec<Row>) -> Result<Draft, (Vec<Row>, Fault<BytesPlace>)>
         ensures { MatchResult result (λ d. (draft_fault head (vec_len rows) ≡ None) × (d.head ≡ head) × (d.rows ≡ rows))
@@ -56,7 +58,7 @@ impl Draft {
     // list comes back as it was.
     pub fn read(bytes: &[u8], mut rows: Vec<Row>) -> Result<Draft, (Vec<Row>, Fault<BytesPlace>)>
         ensures { MatchResult result
-            (λ d. (sheet_in bytes.now (vec_len rows) ≡ Ok (d.head, rows_in d.head d.rows.items)) × (drop d.head.rows d.rows.items ≡ drop d.head.rows rows.items))
+            (λ d. (sheet_in bytes.now (vec_len rows) ≡ Ok (draft_head d, draft_rows d)) × (drop d.head.rows d.rows.items ≡ drop d.head.rows rows.items))
             (λ e. (sheet_in bytes.now (vec_len rows) ≡ Err e.1) × (e.0.items ≡ rows.items)) }
     {
         match read_into(bytes, &mut rows) {
@@ -66,26 +68,25 @@ impl Draft {
     }
 
     pub fn head(&self) -> Head
-        ensures { result ≡ self.now.head }
+        ensures { result ≡ draft_head self.now }
     {
-        let Draft { head, .. } = self;
-        *head
+        self.head
     }
 
     // The rows at the front of the list, which the head describes. Where the judge finds nothing in them,
     // they keep the rules.
     fn front(&self) -> &[Row]
-        ensures same { result.now ≡ rows_in self.now.head self.now.rows.items }
-        ensures kept { fault_found self.now.head self.now.rows.items ≡ false → Rules self.now.head result.now }
-        ensures described { describes self.now.head result.now ≡ true }
+        ensures same { result.now ≡ draft_rows self.now }
+        ensures kept { fault_found self.now.head self.now.rows.items ≡ false → Rules (draft_head self.now) result.now }
+        ensures described { describes (draft_head self.now) result.now ≡ true }
     {
         &self.rows.as_slice()[..self.head.rows as usize]
     }
 
     // The rows of the sheet, which its head describes.
     pub fn rows(&self) -> &[Row]
-        ensures same { result.now ≡ rows_in self.now.head self.now.rows.items }
-        ensures described { describes self.now.head result.now ≡ true }
+        ensures same { result.now ≡ draft_rows self.now }
+        ensures described { describes (draft_head self.now) result.now ≡ true }
     {
         self.front()
     }
@@ -93,9 +94,9 @@ impl Draft {
     // Writes the sheet to the front of `out`, whose rest stays, and says where it ends. Since the head
     // describes the rows, only too little room is refused, and then `out` is left as it was.
     pub fn write(&self, out: &mut [u8]) -> Result<usize, Fault<BytesPlace>>
-        ensures end { result ≡ written_end self.now.head (rows_in self.now.head self.now.rows.items) (length out.old) }
-        ensures bytes { out.new ≡ written_bytes self.now.head (rows_in self.now.head self.now.rows.items) out.old }
-        ensures described { describes self.now.head (rows_in self.now.head self.now.rows.items) ≡ true }
+        ensures end { result ≡ written_end (draft_head self.now) (draft_rows self.now) (length out.old) }
+        ensures bytes { out.new ≡ written_bytes (draft_head self.now) (draft_rows self.now) out.old }
+        ensures described { describes (draft_head self.now) (draft_rows self.now) ≡ true }
     {
         sheet::write(&self.head, self.rows(), out)
     }
@@ -121,14 +122,13 @@ impl Draft {
     pub fn close(self) -> Vec<Row>
         ensures { result ≡ self.rows }
     {
-        let Draft { head: _, rows } = self;
-        rows
+        self.rows
     }
 
     // Accepts the sheet, or gives the draft back with what the judge found.
     pub fn accept(self) -> Result<Accepted, (Draft, Fault<RowPlace>)>
-        ensures { MatchResult result (λ a. (verdict self.head (rows_in self.head self.rows.items) ≡ None) × (a.draft ≡ self))
-            (λ e. (verdict self.head (rows_in self.head self.rows.items) ≡ Some e.1) × (e.0 ≡ self)) }
+        ensures { MatchResult result (λ a. (verdict (draft_head self) (draft_rows self) ≡ None) × (accepted_draft a ≡ self))
+            (λ e. (verdict (draft_head self) (draft_rows self) ≡ Some e.1) × (e.0 ≡ self)) }
     {
         match judge(&self.head, self.rows()) {
             Some(fault) => Err((self, fault)),
@@ -138,25 +138,26 @@ impl Draft {
 }
 
 impl Accepted {
+    ghost use Rattle.stages.specs.Views.{accepted_head, accepted_rows, accepted_draft};
+
     pub fn head(&self) -> Head
-        ensures { result ≡ self.now.draft.head }
+        ensures { result ≡ accepted_head self.now }
     {
         self.draft.head()
     }
 
     // The rows of the sheet, which keep the rules.
     pub fn rows(&self) -> &[Row]
-        ensures same { result.now ≡ rows_in self.now.draft.head self.now.draft.rows.items }
-        ensures kept { Rules self.now.draft.head result.now }
+        ensures same { result.now ≡ accepted_rows self.now }
+        ensures kept { Rules (accepted_head self.now) result.now }
     {
         self.draft.front()
     }
 
     // Makes the sheet a draft again.
     pub fn reopen(self) -> Draft
-        ensures { result ≡ self.draft }
+        ensures { result ≡ accepted_draft self }
     {
-        let Accepted { draft } = self;
-        draft
+        self.draft
     }
 }
