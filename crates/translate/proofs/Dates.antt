@@ -5,6 +5,10 @@ use Rattle.sheet.specs.declared.row.Row.{Row}
 use Rattle.sheet.specs.Rows.{row_at}
 use Rattle.translate.specs.Translation.{tests_in, belongs, date_of, is_due, some_due, is_date, first_among, first_date, row_length, rows_length}
 
+-- What is below the next number and is not the number is below it.
+lower : (i n : ℕ) → i < suc n → (i ≡ n → ⊥) → i < n
+lower i n l e = grind arith
+
 module _ (cycle : ℕ) (rows : List Row) (p : ℕ) where
   abbrev from : ℕ → ℕ → Bool
   from d n = belongs p (row_at rows n) && leb d (date_of (row_at rows n))
@@ -58,10 +62,6 @@ module _ (cycle : ℕ) (rows : List Row) (p : ℕ) where
           on (inl a) c m ih l = let i = ih (omega arith) in omega arith
           on (inr a) c m ih l = omega arith
       go (inr q) ih l = let c : cond (from d n) (min D F) F ≡ F = cond-false _ _ _ q in let i = ih (omega arith) in omega arith
-
-  pub some_more : (d n : ℕ) → some_due cycle rows p d (suc n) ≡ (is_due cycle rows p d n || some_due cycle rows p d n)
-  unfolding some_due
-  some_more d n = refl
 
   -- A date among the first n rows is the first not before itself.
   first-at : (d n : ℕ) → some_due cycle rows p d n ≡ true → first_among cycle rows p d n ≤ d
@@ -183,10 +183,7 @@ module _ (cycle : ℕ) (rows : List Row) (p : ℕ) where
           let w : D ≡ date_of (row_at rows i) = ap (λ (k : ℕ). date_of (row_at rows k)) (sym e) in
           let c : cond (from d n) (min D F) F ≡ min D F = cond-true _ _ _ (and_from _ _ m (le-leb _ _ v)) in
           omega arith
-      go (inr e) ih = let x = low (from d n) in let y = ih (lower l e) b a in omega arith
-        where
-          lower : i < suc n → (i ≡ n → ⊥) → i < n
-          lower l e = grind arith
+      go (inr e) ih = let x = low (from d n) in let y = ih (lower i n l e) b a in omega arith
 
   some_at : (d n i : ℕ) → i < n → is_due cycle rows p d i ≡ true → some_due cycle rows p d n ≡ true
   unfolding some_due
@@ -195,10 +192,7 @@ module _ (cycle : ℕ) (rows : List Row) (p : ℕ) where
     where
       go : (i ≡ n) ⊎ (i ≡ n → ⊥) → (i < n → is_due cycle rows p d i ≡ true → some_due cycle rows p d n ≡ true) → (is_due cycle rows p d n || some_due cycle rows p d n) ≡ true
       go (inl z) ih = or_left _ _ (subst (λ (k : ℕ). is_due cycle rows p d k ≡ true) z e)
-      go (inr z) ih = or_right (is_due cycle rows p d n) _ (ih (lower l z) e)
-        where
-          lower : i < suc n → (i ≡ n → ⊥) → i < n
-          lower l z = grind arith
+      go (inr z) ih = or_right (is_due cycle rows p d n) _ (ih (lower i n l z) e)
 
   -- The first date not before another is one, unless it is the end of the cycle.
   pub first-date : (d : ℕ) → first_date cycle rows p d < cycle → is_date cycle rows p (first_date cycle rows p d) ≡ true

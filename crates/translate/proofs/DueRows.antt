@@ -2,17 +2,11 @@
 use Rattle.std.proofs.Common.{◌≡◌, ℕ, suc, ◌+◌, ◌-◌, ◌<◌, ◌≤◌, true, false, cond, List, ◌++◌, sym, ap, ◌∙◌, subst, zero-add, arith}
 use Rattle.std.proofs.lemmas.Bool.{cond-true, cond-false}
 use Rattle.sheet.specs.declared.row.Row.{Row}
-use Rattle.sheet.specs.declared.row.Row.TheVariants.{Keep as keep_row, Call as call_row, Send as send_row}
 use Rattle.translate.specs.declared.code.Code.{Code}
 use Rattle.translate.specs.Programs.{Writes}
-use Rattle.translate.specs.Translation.{date_of, end_of, is_due, row_length, rows_length, row_code, tail_code, rows_code}
+use Rattle.translate.specs.Translation.{is_due, row_length, rows_length, row_code, tail_code, rows_code}
 use Rattle.translate.proofs.Lengths.{row-length, length-step}
 use Rattle.translate.proofs.Writing.{writes_append}
-
-pub dates-end : (row : Row) → date_of row ≤ end_of row
-dates-end (keep_row k) = omega arith
-dates-end (call_row c) = omega arith
-dates-end (send_row s) = omega arith
 
 module _ (cycle : ℕ) (rows : List Row) (p o d : ℕ) where
   rows-step : (i n b : ℕ) → i < n
@@ -48,7 +42,3 @@ module _ (cycle : ℕ) (rows : List Row) (p o d : ℕ) where
 
   pub length-other : (i n : ℕ) → i < n → is_due cycle rows p d i ≡ false → rows_length cycle rows p d i (n - i) ≡ rows_length cycle rows p d (i + 1) (n - (i + 1))
   length-other i n l q = length-step cycle rows p d i n l ∙ ap (λ (k : ℕ). k + rows_length cycle rows p d (i + 1) (n - (i + 1))) (cond-false _ _ _ q) ∙ zero-add _
-
-  pub length-tail : (i n : ℕ) → n ≤ i → rows_length cycle rows p d i (n - i) ≡ 0
-  unfolding rows_length
-  length-tail i n l = let z : n - i ≡ 0 = omega arith in ap (rows_length cycle rows p d i) z

@@ -7,7 +7,6 @@ use Rattle.sheet.specs.declared.row.Relation.{Relation}
 use Rattle.sheet.specs.declared.row.Relation.TheVariants.{Equal, Unequal}
 use Rattle.sheet.specs.declared.row.Test.{Test}
 use Rattle.sheet.specs.declared.row.Condition.{Condition}
-use Rattle.sheet.specs.declared.row.Condition.TheVariants.{Always, One, Two, Three, Four}
 use Rattle.sheet.specs.declared.row.Inputs.{Inputs}
 use Rattle.sheet.specs.declared.row.Inputs.TheVariants.{Nothing, Single, Pair}
 use Rattle.sheet.specs.declared.row.Row.{Row}
@@ -22,7 +21,8 @@ use Rattle.translate.specs.Translation.{tests_in, end_of}
 use Rattle.translate.specs.Schedules.{keep_count, is_equal, input_count, first_input, second_input, as_test, as_tests, as_row, as_keep, rows_of, row_total, keeps_of}
 use Rattle.translate.specs.Ordered.{Ordered}
 use Rattle.translate.specs.Stores.{Bounded}
-use Rattle.translate.proofs.Maps.{keep-few, keep-front, tests_same}
+use Rattle.translate.proofs.Lengths.{condition-few}
+use Rattle.translate.proofs.Maps.{length-as, keep-few, keep-front, tests_same}
 
 -- Keep rows stand above all others.
 keep-is : (row : Row) → IsKeep row → is_keep row ≡ true
@@ -79,11 +79,7 @@ mem-tests P (u ∷ ts) (x, a) t (inl e) = subst (λ (z : Asked). P z.var) (sym e
 mem-tests P (u ∷ ts) (x, a) t (inr m) = mem-tests P ts a t m
 
 few-tests : (c : Condition) → length (as_tests (tests_of c)) ≤ 4
-few-tests Always = omega arith
-few-tests (One a) = omega arith
-few-tests (Two a b) = omega arith
-few-tests (Three a b c) = omega arith
-few-tests (Four a b c d) = omega arith
+few-tests c = omega (arith, length-as (tests_of c), condition-few c)
 
 -- A test with those before and after it.
 split : (ts : List Test) (c : List Asked) (t : Asked) (d : List Asked) → as_tests ts ≡ c ++ (t ∷ d)

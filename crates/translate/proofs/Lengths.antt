@@ -12,7 +12,8 @@ use Rattle.netcode.specs.declared.step.Step.TheVariants.{Halt}
 use Rattle.translate.specs.Translation.{tests_in, end_of, act, is_due, is_date, first_date, row_length, rows_length, address, wait_for, tests_code, row_code, rows_code, code_to, preparation, opening_length, opening, program_code}
 use Rattle.translate.proofs.Dates.{first-none-before, some-row}
 
-condition-few : (c : Condition) → length (tests_of c) ≤ 4
+-- A condition has at most four tests.
+pub condition-few : (c : Condition) → length (tests_of c) ≤ 4
 condition-few Always = omega arith
 condition-few (One a) = omega arith
 condition-few (Two a b) = omega arith

@@ -8,7 +8,6 @@ pub mod Kept
 pub mod Lawfulness
 pub mod Lengths
 pub mod Maps
-pub mod Staged
 pub mod Whole
 pub mod Woken
 pub mod Writing

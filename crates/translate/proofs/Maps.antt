@@ -35,7 +35,7 @@ keep-front (call_row c ∷ rows) i l = absurd (omega arith)
 keep-front (send_row s ∷ rows) i l = absurd (omega arith)
 
 -- What a row is in both.
-length-as : (ts : List Test) → length (as_tests ts) ≡ length ts
+pub length-as : (ts : List Test) → length (as_tests ts) ≡ length ts
 length-as [] = refl
 length-as (t ∷ ts) = ap suc (length-as ts)
 

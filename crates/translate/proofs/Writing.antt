@@ -22,7 +22,7 @@ length-stored old at (x ∷ xs) = length-stored (set old at x) (at + 1) xs ∙ l
 
 -- Nothing is written, and one thing after another.
 pub writes_none : (a : Code) → Writes a a []
-writes_none a = record { same = refl; list = refl; end = sym (add-zero a.end) }
+writes_none a = record { same = refl; list = refl; end = sym (add-zero a.end); room = refl }
 
 pub writes_append : (a b c : Code) (xs ys : List Step) → Writes a b xs → Writes b c ys → Writes a c (xs ++ ys)
 writes_append a b c xs ys w v =
@@ -33,11 +33,8 @@ writes_append a b c xs ys w v =
       same = v.same ∙ w.same;
       list = v.list ∙ ap₂ (λ (s : List Step) (k : ℕ). stored s k ys) w.list w.end ∙ sym (stored-append a.steps.now a.end xs ys);
       end = omega arith;
+      room = v.room ∙ w.room;
     }
-
--- The list keeps its length.
-pub writes_room : (a b : Code) (xs : List Step) → Writes a b xs → length b.steps.now ≡ length a.steps.now
-writes_room a b xs w = ap length w.list ∙ length-stored a.steps.now a.end xs
 
 tests_code-append : (xs ys : List Test) (to : ℕ) → tests_code (xs ++ ys) to ≡ tests_code xs to ++ tests_code ys to
 tests_code-append [] ys to = refl

@@ -58,7 +58,9 @@ kept_to made rows p zero = []
 kept_to made rows p (suc n) = kept_to made rows p n ++ made_of made n (kept_in p (row_at rows n))
 
 -- What is written in a list of steps that is filled: the new steps stand where it ended, and it ends after them.
+-- The list keeps its length.
 pub record Writes (before after : Code) (new : List Step) : Type 0 where
   pub same : after.steps.ghost_name ≡ before.steps.ghost_name
   pub list : after.steps.now ≡ stored before.steps.now before.end new
   pub end : after.end ≡ before.end + length new
+  pub room : length after.steps.now ≡ length before.steps.now

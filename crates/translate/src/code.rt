@@ -1,4 +1,4 @@
-ghost use Rattle.std.specs.Prelude.{◌+◌, ◌<◌, ◌≤◌, [], ◌∷◌, length};
+ghost use Rattle.std.specs.Prelude.{◌≡◌, ◌+◌, ◌<◌, ◌≤◌, [], ◌∷◌, length};
 ghost use Rattle.netcode.specs.declared.step.Step.TheVariants.{Halt};
 ghost use Rattle.translate.specs.Programs.{Writes};
 ghost use Rattle.translate.specs.Translation.{tests_code};
@@ -35,7 +35,8 @@ impl Code<'_> {
     // Tests that go to `to` where they fail.
     pub fn put_tests(&mut self, tests: &[Test], to: u32)
         requires { self.old.end + length tests.now ≤ length self.old.steps.now }
-        ensures { Writes self.old self.new (tests_code tests.now to) }
+        ensures code { Writes self.old self.new (tests_code tests.now to) }
+        ensures end { self.new.end ≡ self.old.end + length tests.now }
     {
         for test in tests {
             self.put(Step::Test {

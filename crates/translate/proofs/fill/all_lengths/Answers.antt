@@ -1,15 +1,7 @@
-use Rattle.std.proofs.Common.{◌≡◌, ℕ, ◌-◌, length, ap, arith}
+use Rattle.std.proofs.Common.{length, ap, arith}
 use Rattle.netcode.specs.Layouts.{program_count}
-use Rattle.translate.specs.Stores.{steps_of}
-use Rattle.translate.specs.Translation.{programs_from}
 use Rattle.translate.proofs.Fills.{length_more, length_none}
 use Rattle.translate.proofs.fill.all_lengths.Goals as goal
-
-pub loop-number-init : goal.loop-number-init
-loop-number-init c =
-    let z : program_count c.args.head.stations - 0 ≡ program_count c.args.head.stations = omega arith in
-    let e = ap (λ (k : ℕ). length (steps_of (programs_from c.args.head.cycle c.args.rows.now 0 k))) z in
-    (omega arith, omega arith)
 
 pub loop-number-preserved : goal.loop-number-preserved
 loop-number-preserved c =

@@ -1,7 +1,5 @@
-use Rattle.std.proofs.Common.{[], ◌∷◌, ◌∙◌, arith}
-use Rattle.sheet.specs.Rows.{test_at}
-use Rattle.translate.specs.Translation.{tests_code}
-use Rattle.translate.proofs.Writing.{writes_test, writes_room}
+use Rattle.std.proofs.Common.{arith}
+use Rattle.translate.proofs.Writing.{writes_test}
 use Rattle.translate.proofs.code.Code.put_tests.Goals as goal
 
 pub loop-test-preserved : goal.loop-test-preserved
@@ -14,5 +12,4 @@ loop-test-preserved c =
     record {
       written = writes_test c.args.self.now l.self c.put.new.self ts l.test-index c.args.to c.loop-test-test.true l.invariant.written w;
       end = omega arith;
-      room = writes_room l.self c.put.new.self (tests_code (test_at ts l.test-index ∷ []) c.args.to) w ∙ l.invariant.room;
     }

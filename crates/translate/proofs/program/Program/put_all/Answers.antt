@@ -4,7 +4,6 @@ use Rattle.translate.specs.Translation.{code_to}
 use Rattle.translate.proofs.Earliest.{begins, goes, ends}
 use Rattle.translate.proofs.Lengths.{address-none, opening-length, rows-length, rows_few}
 use Rattle.translate.proofs.Whole.{opening-few, opening-room, address-next, address-room, writes-begun, writes-block, writes-whole}
-use Rattle.translate.proofs.Writing.{writes_room}
 use Rattle.translate.proofs.program.Program.put_all.Goals as goal
 
 pub put_opening-requires : goal.put_opening-requires
@@ -49,7 +48,7 @@ put_block-requires-clause-room c =
     let room = address-room p.cycle p.rows.now p.number (date + 1) (omega arith) in
     let asked = c.requires.room in
     let end = l.invariant.end in
-    let same = writes_room c.args.code.now l.code (code_to p.cycle p.rows.now p.number (opening_of p) l.date-iterator.from) l.invariant.written in
+    let same = l.invariant.written.room in
     omega arith
 
 pub loop-date-preserved : goal.loop-date-preserved

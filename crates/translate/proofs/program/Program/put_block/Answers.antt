@@ -6,7 +6,6 @@ use Rattle.translate.specs.Programs.{wait_of, opening_length_of, Writes}
 use Rattle.translate.specs.Translation.{is_due, row_code}
 use Rattle.translate.proofs.DueRows.{tail-is, writes-due, writes-other, length-due, length-other}
 use Rattle.translate.proofs.Lengths.{rows_few, row-length}
-use Rattle.translate.proofs.Writing.{writes_room}
 use Rattle.translate.proofs.program.Program.put_block.Goals as goal
 use Rattle.translate.proofs.program.Program.put_block.Goals.{then-is_due, else-is_due}
 
@@ -48,7 +47,7 @@ loop-number-preserved c =
           record {
             whole = λ last w. l.invariant.whole last (writes-due p.cycle p.rows.now p.number o c.args.date l.number n l.code c.if-is_due.code last t q put w);
             left = omega arith;
-            room = writes_room l.code c.if-is_due.code row put ∙ l.invariant.room;
+            room = put.room ∙ l.invariant.room;
           }
       | else-is_due w ↦
           let q : is_due p.cycle p.rows.now p.number c.args.date l.number ≡ false = sym w.if-is_due.ensures in

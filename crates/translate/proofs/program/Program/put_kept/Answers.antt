@@ -3,7 +3,7 @@ use Rattle.sheet.specs.Rows.{row_at}
 use Rattle.translate.specs.declared.code.Code.{Code}
 use Rattle.translate.specs.Programs.{kept_in, kept_to, Writes}
 use Rattle.translate.proofs.Kept.{kept-none, writes-row, writes-no_row, kept-length-none, kept-length-more, kept-length-same, kept-length-few}
-use Rattle.translate.proofs.Writing.{writes_none, writes_room}
+use Rattle.translate.proofs.Writing.{writes_none}
 use Rattle.translate.proofs.program.Program.put_kept.Goals as goal
 use Rattle.translate.proofs.program.Program.put_kept.Goals.{in-Some, in_default}
 
@@ -39,7 +39,7 @@ loop-number-preserved g c =
           let more = kept-length-more p.rows.now p.number l.number w.in-Some.keep w.in-Some.ensures in
           record {
             end = omega arith;
-            room = writes_room l.code c.match-kept.code (w.step.result ∷ []) put ∙ l.invariant.room;
+            room = put.room ∙ l.invariant.room;
             written = λ made h.
                 writes-row made p.rows.now p.number c.args.code.now l.code c.match-kept.code l.number w.in-Some.keep w.step.result w.in-Some.ensures (h l.number w.in-Some.keep w.step.result w.step.ensures)
                 (l.invariant.written made h) put;

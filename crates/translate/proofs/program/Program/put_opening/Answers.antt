@@ -3,7 +3,7 @@ use Rattle.netcode.specs.declared.step.Step.{Step}
 use Rattle.netcode.specs.declared.step.Step.TheVariants.{Halt}
 use Rattle.translate.specs.Programs.{preparation_of, wait_of, Writes}
 use Rattle.translate.proofs.Whole.{opened-later}
-use Rattle.translate.proofs.Writing.{writes_append, writes_room}
+use Rattle.translate.proofs.Writing.{writes_append}
 use Rattle.translate.proofs.program.Program.put_opening.Goals as goal
 
 pub put_wait-requires : goal.put_wait-requires
@@ -11,7 +11,7 @@ put_wait-requires c =
     let p = c.args.self.now in
     let w = c.put_preparation.ensures in
     let end = w.end in
-    let room = writes_room c.args.code.now c.put_preparation.new.code (preparation_of p) w in
+    let room = w.room in
     let long = (opened-later p.cycle p.rows.now p.number (sym c.if-not-has_date.ensures)).1 in
     let asked = c.requires in
     omega arith
