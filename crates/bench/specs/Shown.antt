@@ -4,6 +4,7 @@ use Rattle.fault.specs.declared.refusal.Fault.{Fault}
 use Rattle.fault.specs.declared.place.TickPlace.{TickPlace}
 use Rattle.netcode.specs.declared.step.Step.{Step}
 use Rattle.netcode.specs.declared.step.Step.TheVariants.{Test, Future, Halt, Call, Send, Receive, Keep, Clear, Give}
+use Rattle.netcode.specs.Laws.{InputsWithin}
 use Rattle.semantics.specs.declared.state.State.{State}
 use Rattle.semantics.specs.Machine.{World, Stepped, Outcome, mark_in, is_busy}
 use Rattle.semantics.specs.Machine.Stepped.{onto, halted}
@@ -24,15 +25,15 @@ outcome (Err fault) w = Outcome.refused fault w
 
 -- The limits of a step's fields, as far as the machine goes by them.
 abbrev pub Fits : Step → Type 0
-Fits (Test variable relation word to) = Unit {0}
+Fits (Test variable relation word to) = variable < 64
 Fits (Future ticks to) = ticks ≤ 65535
 Fits Halt = Unit {0}
-Fits (Call row work inputs output duration) = (row < 128) × (duration ≤ 65535)
-Fits (Send row variable duration) = (row < 128) × (duration ≤ 65535)
-Fits (Receive variable duration) = duration ≤ 65535
-Fits (Keep variable cell) = Unit {0}
+Fits (Call row work inputs output duration) = (row < 128) × InputsWithin inputs × (output < 64) × (duration ≤ 65535)
+Fits (Send row variable duration) = (row < 128) × (variable < 64) × (duration ≤ 65535)
+Fits (Receive variable duration) = (variable < 64) × (duration ≤ 65535)
+Fits (Keep variable cell) = (variable < 64) × (cell < 16)
 Fits Clear = Unit {0}
-Fits (Give cell variable word) = Unit {0}
+Fits (Give cell variable word) = (cell < 16) × (variable < 64)
 
 -- No row was counted more than once for each unit and tick granted, nor more than once in the turn of a program.
 abbrev pub Room : State → ℕ → Type 0

@@ -24,6 +24,7 @@ impl Machine {
         word: u32,
         to: u32,
     ) -> Result<Option<u32>, Fault<TickPlace>>
+        requires { variable < 64 }
         ensures { (p : P.model.State) → stepped_to result (world self.now.state p) ≡ tested P.model (word_in self.now.state (station_of at.program.number) variable) relation word to at.program.number at.address (world self.now.state p) }
     {
         let Some(held) = self.word(at.program, variable) else {
@@ -87,7 +88,7 @@ impl Machine {
         variable: u32,
         duration: u32,
     ) -> Result<Option<u32>, Fault<TickPlace>>
-        requires fields { (row < 128) × (duration ≤ 65535) }
+        requires fields { (row < 128) × (variable < 64) × (duration ≤ 65535) }
         requires room { Room self.old.state at.program.number }
         ensures { (p : P.model.State) → stepped_to result (world self.new.state p) ≡ sent P.model (word_in self.old.state (station_of at.program.number) variable) row duration at.program.number at.address (world self.old.state p) }
     {
@@ -134,6 +135,7 @@ impl Machine {
 
     // KEEP puts a word that is held in the cell.
     pub(crate) fn keep<P: Plant>(&mut self, program: Program, variable: u32, cell: u32)
+        requires { (variable < 64) × (cell < 16) }
         ensures { self.new.state ≡ kept_from P.model (word_in self.old.state (station_of program.number) variable) cell self.old.state }
     {
         if let Some(word) = self.word(program, variable) {
@@ -143,6 +145,7 @@ impl Machine {
 
     // GIVE puts the cell's word, or the one it names where the cell is empty, in the variable.
     pub(crate) fn give(&mut self, program: Program, cell: u32, variable: u32, word: u32)
+        requires { cell < 16 }
         ensures { self.new.state ≡ with_word self.old.state (station_of program.number) variable (Some (or_first (cell_in self.old.state cell) word)) }
     {
         let given = self.cell_or(cell, word);
