@@ -1,5 +1,5 @@
 -- What was written is read back.
-use Rattle.std.proofs.Common.{◌≡◌, ℕ, zero, suc, ◌^◌, ◌<◌, true, ltb, List, [], ◌∷◌, ◌++◌, length, take, drop, refl, ap, ◌∙◌, arith, lit<}
+use Rattle.std.proofs.Common.{◌≡◌, ℕ, zero, suc, ◌^◌, ◌<◌, true, ltb, List, [], ◌∷◌, ◌++◌, length, take, drop, ◌∙◌, arith, lit<}
 use Rattle.std.specs.List.{flat_map, AllByRecursion}
 use Rattle.std.proofs.lemmas.List.{length-take, take_at}
 use Rattle.std.proofs.lemmas.Bool.{ltb-true, and_parts, le-ltb}
@@ -9,6 +9,7 @@ use Rattle.netcode.specs.declared.step.Step.{Step}
 use Rattle.netcode.specs.declared.step.Layout.{Layout}
 use Rattle.netcode.specs.Steps.{numbers_of}
 use Rattle.netcode.specs.Layouts.{program_count, cuts}
+use Rattle.netcode.proofs.Cuts.{length-cuts}
 use Rattle.programs.specs.Files.{all_words, stations_within, layout_within, program_numbers, file_bytes, file_of, written_file}
 use Rattle.programs.specs.Laws.{IsFile, StepWords, WrittenReadsBack}
 use Rattle.programs.proofs.Exact.{file-returns}
@@ -43,10 +44,6 @@ programs-words (n ∷ ns) xs e w =
     all_append (program_numbers (take n xs)) (flat_map program_numbers (cuts ns (drop n xs)))
     (l, steps-words (take n xs) (words-taken n xs w)) (programs-words ns (drop n xs) p.1 (words_left n xs w))
 
-cuts-length : (ns : List ℕ) (xs : List Step) → length (cuts ns xs) ≡ length ns
-cuts-length [] xs = refl
-cuts-length (n ∷ ns) xs = ap suc (cuts-length ns (drop n xs))
-
 is-file : (layout : Layout) (steps : List Step) → length layout.lengths ≡ 16 → StepWords steps → layout_within layout ≡ true → IsFile (file_of layout steps)
 is-file layout steps l w e =
     let p = and_parts (stations_within layout.stations) (all_words (take (program_count layout.stations) layout.lengths)) e in
@@ -57,7 +54,7 @@ is-file layout steps l w e =
     record {
       some = omega arith;
       few = omega arith;
-      counts = cuts-length (take (program_count layout.stations) layout.lengths) steps ∙ n;
+      counts = length-cuts (take (program_count layout.stations) layout.lengths) steps ∙ n;
       words = (lit< tt, (omega arith, programs-words (take (program_count layout.stations) layout.lengths) steps p.1 w));
     }
 

@@ -1,5 +1,5 @@
-use Rattle.std.specs.Prelude.{ℕ, zero, suc, ◌+◌, ◌^◌, Bool, true, cond, ◌&&◌, List, [], ◌∷◌, ◌++◌, map, length, take, drop, replicate, Ok, Err, Result, ◌==◌, nat_lt}
-use Rattle.std.specs.List.{flat_map}
+use Rattle.std.specs.Prelude.{ℕ, zero, suc, ◌+◌, ◌^◌, Bool, cond, ◌&&◌, List, [], ◌∷◌, ◌++◌, map, length, take, drop, replicate, Ok, Err, Result, ◌==◌, nat_lt}
+use Rattle.std.specs.List.{flat_map, list_all}
 use Rattle.fault.specs.declared.refusal.Fault.{Fault}
 use Rattle.fault.specs.declared.refusal.Refusal.TheVariants.{Strange, Trailing}
 use Rattle.fault.specs.declared.place.Offset.{Offset}
@@ -96,8 +96,7 @@ file_bytes file = spelled (file_numbers file)
 
 -- Numbers of 32 bits.
 abbrev pub all_words : List ℕ → Bool
-all_words [] = true
-all_words (n ∷ ns) = nat_lt n (2 ^ 32) && all_words ns
+all_words ns = list_all (λ n. nat_lt n (2 ^ 32)) ns
 
 -- A layout that a file can have: 1 to 8 stations, and lengths of 32 bits.
 abbrev pub layout_within : Layout → Bool

@@ -9,6 +9,20 @@ use Rattle.netcode.specs.declared.step.Step.TheVariants.{Test, Future, Halt, Cal
 -- Readers of steps, over the numbers of an input: `num` is the number at a position, and `aft` the
 -- position after it.
 module _ (num : ℕ → Result ℕ (Fault Offset)) (aft : ℕ → ℕ) where
+  -- Two numbers, and three.
+  abbrev pub two_numbers : ℕ → Read (ℕ × ℕ)
+  two_numbers pos =
+      and_then (one_number num aft pos) (λ a.
+      and_then (one_number num aft a.1) (λ b.
+      Ok ((a.0, b.0), b.1)))
+
+  abbrev pub three_numbers : ℕ → Read (ℕ × ℕ × ℕ)
+  three_numbers pos =
+      and_then (one_number num aft pos) (λ a.
+      and_then (one_number num aft a.1) (λ b.
+      and_then (one_number num aft b.1) (λ c.
+      Ok ((a.0, b.0, c.0), c.1))))
+
   -- The fields of each step, in their order.
   abbrev pub test_fields : ℕ → Read Step
   test_fields pos =

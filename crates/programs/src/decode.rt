@@ -1,12 +1,33 @@
 ghost use Rattle.std.specs.Prelude.{◌≡◌};
 ghost use Rattle.wire.specs.Numbers.{number_at, after_number};
 ghost use Rattle.sheet.specs.Parts.{shown};
-ghost use Rattle.programs.specs.Steps.{test_fields, future_fields, call_fields, send_fields, receive_fields, keep_fields, give_fields, step_from};
+ghost use Rattle.programs.specs.Steps.{two_numbers, three_numbers, test_fields, call_fields, step_from};
 
 use fault::{Fault, Offset};
 use netcode::Step;
 use sheet::{read_inputs, read_relation, strange};
 use wire::Reader;
+
+// The next two numbers.
+fn two_numbers(reader: &mut Reader) -> Result<(u32, u32), Fault<Offset>>
+    ensures value { shown result reader.new.pos ≡ two_numbers (number_at reader.old.bytes.now) (after_number reader.old.bytes.now) reader.old.pos }
+    ensures same { reader.new.bytes ≡ reader.old.bytes }
+{
+    let first = reader.number()?;
+    let second = reader.number()?;
+    Ok((first, second))
+}
+
+// The next three numbers.
+fn three_numbers(reader: &mut Reader) -> Result<(u32, u32, u32), Fault<Offset>>
+    ensures value { shown result reader.new.pos ≡ three_numbers (number_at reader.old.bytes.now) (after_number reader.old.bytes.now) reader.old.pos }
+    ensures same { reader.new.bytes ≡ reader.old.bytes }
+{
+    let first = reader.number()?;
+    let second = reader.number()?;
+    let third = reader.number()?;
+    Ok((first, second, third))
+}
 
 fn test_fields(reader: &mut Reader) -> Result<Step, Fault<Offset>>
     ensures value { shown result reader.new.pos ≡ test_fields (number_at reader.old.bytes.now) (after_number reader.old.bytes.now) reader.old.pos }
@@ -22,15 +43,6 @@ fn test_fields(reader: &mut Reader) -> Result<Step, Fault<Offset>>
         word,
         address,
     })
-}
-
-fn future_fields(reader: &mut Reader) -> Result<Step, Fault<Offset>>
-    ensures value { shown result reader.new.pos ≡ future_fields (number_at reader.old.bytes.now) (after_number reader.old.bytes.now) reader.old.pos }
-    ensures same { reader.new.bytes ≡ reader.old.bytes }
-{
-    let ticks = reader.number()?;
-    let address = reader.number()?;
-    Ok(Step::Future { ticks, address })
 }
 
 fn call_fields(reader: &mut Reader) -> Result<Step, Fault<Offset>>
@@ -51,52 +63,6 @@ fn call_fields(reader: &mut Reader) -> Result<Step, Fault<Offset>>
     })
 }
 
-fn send_fields(reader: &mut Reader) -> Result<Step, Fault<Offset>>
-    ensures value { shown result reader.new.pos ≡ send_fields (number_at reader.old.bytes.now) (after_number reader.old.bytes.now) reader.old.pos }
-    ensures same { reader.new.bytes ≡ reader.old.bytes }
-{
-    let row = reader.number()?;
-    let variable = reader.number()?;
-    let duration = reader.number()?;
-    Ok(Step::Send {
-        row,
-        variable,
-        duration,
-    })
-}
-
-fn receive_fields(reader: &mut Reader) -> Result<Step, Fault<Offset>>
-    ensures value { shown result reader.new.pos ≡ receive_fields (number_at reader.old.bytes.now) (after_number reader.old.bytes.now) reader.old.pos }
-    ensures same { reader.new.bytes ≡ reader.old.bytes }
-{
-    let variable = reader.number()?;
-    let duration = reader.number()?;
-    Ok(Step::Receive { variable, duration })
-}
-
-fn keep_fields(reader: &mut Reader) -> Result<Step, Fault<Offset>>
-    ensures value { shown result reader.new.pos ≡ keep_fields (number_at reader.old.bytes.now) (after_number reader.old.bytes.now) reader.old.pos }
-    ensures same { reader.new.bytes ≡ reader.old.bytes }
-{
-    let variable = reader.number()?;
-    let cell = reader.number()?;
-    Ok(Step::Keep { variable, cell })
-}
-
-fn give_fields(reader: &mut Reader) -> Result<Step, Fault<Offset>>
-    ensures value { shown result reader.new.pos ≡ give_fields (number_at reader.old.bytes.now) (after_number reader.old.bytes.now) reader.old.pos }
-    ensures same { reader.new.bytes ≡ reader.old.bytes }
-{
-    let cell = reader.number()?;
-    let variable = reader.number()?;
-    let word = reader.number()?;
-    Ok(Step::Give {
-        cell,
-        variable,
-        word,
-    })
-}
-
 // The next step: its number, and the fields of that step.
 pub fn read_step(reader: &mut Reader) -> Result<Step, Fault<Offset>>
     ensures value { shown result reader.new.pos ≡ step_from reader.old.bytes.now reader.old.pos }
@@ -105,14 +71,22 @@ pub fn read_step(reader: &mut Reader) -> Result<Step, Fault<Offset>>
     let start = reader.pos();
     match reader.number()? {
         0 => test_fields(reader),
-        1 => future_fields(reader),
+        1 => two_numbers(reader).map(|(ticks, address)| Step::Future { ticks, address }),
         2 => Ok(Step::Halt),
         3 => call_fields(reader),
-        4 => send_fields(reader),
-        5 => receive_fields(reader),
-        6 => keep_fields(reader),
+        4 => three_numbers(reader).map(|(row, variable, duration)| Step::Send {
+            row,
+            variable,
+            duration,
+        }),
+        5 => two_numbers(reader).map(|(variable, duration)| Step::Receive { variable, duration }),
+        6 => two_numbers(reader).map(|(variable, cell)| Step::Keep { variable, cell }),
         7 => Ok(Step::Clear),
-        8 => give_fields(reader),
+        8 => three_numbers(reader).map(|(cell, variable, word)| Step::Give {
+            cell,
+            variable,
+            word,
+        }),
         _ => Err(strange(start)),
     }
 }

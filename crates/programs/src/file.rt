@@ -5,13 +5,8 @@ ghost use Rattle.programs.specs.Stores.{left_file, storing_file};
 use crate::load::read_programs;
 use fault::{BytesPlace, Fault, Refusal};
 use netcode::{Layout, Step};
+use sheet::{head_outside, strange};
 use wire::Reader;
-
-fn refused(refusal: Refusal, place: BytesPlace) -> Fault<BytesPlace>
-    ensures { result ≡ record { refusal = refusal; place = place } }
-{
-    Fault { refusal, place }
-}
 
 // Reads a file for a list of `room` steps, and stores the steps as far as the list has their places.
 fn read_file(bytes: &[u8], room: usize, list: &mut [Step]) -> Result<Layout, Fault<BytesPlace>>
@@ -19,16 +14,19 @@ fn read_file(bytes: &[u8], room: usize, list: &mut [Step]) -> Result<Layout, Fau
 {
     let mut reader = Reader::new(bytes);
     if reader.number()? != 1 {
-        return Err(refused(Refusal::Strange, BytesPlace::Offset(0)));
+        return Err(strange(0).into());
     }
     let stations = reader.number()?;
     if !(0 < stations && stations < 9) {
-        return Err(refused(Refusal::HeadOutside, BytesPlace::Head));
+        return Err(head_outside());
     }
     let lengths = read_programs(&mut reader, stations, room, list)?;
     let end = reader.pos();
     if end < bytes.len() {
-        return Err(refused(Refusal::Trailing, BytesPlace::Offset(end)));
+        return Err(Fault {
+            refusal: Refusal::Trailing,
+            place: BytesPlace::Offset(end),
+        });
     }
     Ok(Layout { stations, lengths })
 }

@@ -6,8 +6,9 @@ ghost use Rattle.programs.specs.Files.{one_program, some_programs};
 ghost use Rattle.programs.specs.Stores.{left, storing, left_program, storing_program, left_programs, storing_programs};
 
 use crate::decode::read_step;
-use fault::{BytesPlace, Fault, Offset, Refusal};
+use fault::{BytesPlace, Fault, Offset};
 use netcode::{Step, program_count};
+use sheet::too_short;
 use wire::Reader;
 
 // Puts a step in a place of the list, if it has that place.
@@ -30,9 +31,9 @@ fn read_steps(
     ensures value { left result list.new reader.new.pos ≡ storing list.old at (steps_from count reader.old.bytes.now reader.old.pos) }
     ensures same { reader.new.bytes ≡ reader.old.bytes }
 {
-    for i in 0..count {
+    for place in at..at + count as usize {
         let step = read_step(reader)?;
-        put(list, at + i as usize, step);
+        put(list, place, step);
     }
     Ok(())
 }
@@ -52,10 +53,7 @@ fn read_program(
     let count = reader.number()?;
     let needed = before as u64 + u64::from(count);
     if (room as u64) < needed {
-        return Err(Fault {
-            refusal: Refusal::TooShort,
-            place: BytesPlace::Needed(needed),
-        });
+        return Err(too_short(needed));
     }
     read_steps(reader, count, list, before)?;
     Ok(count)
@@ -74,10 +72,9 @@ pub(crate) fn read_programs(
 {
     let mut lengths = [0; 16];
     let mut before: usize = 0;
-    for number in 0..program_count(stations) {
-        let count = read_program(reader, room, before, list)?;
-        lengths[number] = count as usize;
-        before += count as usize;
+    for length in &mut lengths[..program_count(stations)] {
+        *length = read_program(reader, room, before, list)? as usize;
+        before += *length;
     }
     Ok(lengths)
 }

@@ -5,19 +5,17 @@ ghost use Rattle.programs.specs.Files.{all_words, layout_within, program_numbers
 ghost use Rattle.programs.specs.Stores.{putting};
 
 use crate::encode::{put_one, put_program};
-use fault::{BytesPlace, Fault, Refusal};
+use fault::{BytesPlace, Fault};
 use netcode::{Layout, Step, program_count};
+use sheet::{head_outside, too_short};
 
 // Whether the lengths of a layout's programs are numbers of 32 bits.
 fn lengths_within(layout: &Layout) -> bool
     ensures { result ≡ all_words (take (program_count layout.now.stations) layout.now.lengths) }
 {
-    for number in 0..program_count(layout.stations) {
-        if layout.lengths[number] >= 4294967296 {
-            return false;
-        }
-    }
-    true
+    layout.lengths[..program_count(layout.stations)]
+        .iter()
+        .all(|length| *length < 4294967296)
 }
 
 // Whether a file can have the layout: 1 to 8 stations, and lengths of 32 bits.
@@ -33,11 +31,8 @@ fn put_programs(out: &mut [u8], at: usize, layout: &Layout, steps: &[Step]) -> u
     ensures put { putting out.old at (flat_map program_numbers (programs_of layout.now steps.now)) ≡ (out.new, result) }
 {
     let mut end = at;
-    let mut rest = steps;
-    for number in 0..program_count(layout.stations) {
-        let length = layout.lengths[number].min(rest.len());
-        end = put_program(out, end, &rest[0..length]);
-        rest = &rest[length..];
+    for program in layout.programs(steps) {
+        end = put_program(out, end, program);
     }
     end
 }
@@ -61,17 +56,11 @@ pub fn write(layout: &Layout, steps: &[Step], out: &mut [u8]) -> Result<usize, F
     ensures bytes { out.new ≡ written_file layout.now steps.now out.old }
 {
     if !layout_within(layout) {
-        return Err(Fault {
-            refusal: Refusal::HeadOutside,
-            place: BytesPlace::Head,
-        });
+        return Err(head_outside());
     }
     let needed = put_file(&mut [], layout, steps);
     if out.len() < needed {
-        return Err(Fault {
-            refusal: Refusal::TooShort,
-            place: BytesPlace::Needed(needed as u64),
-        });
+        return Err(too_short(needed as u64));
     }
     Ok(put_file(out, layout, steps))
 }

@@ -9,33 +9,32 @@ pub returns-in_err-step : goal.returns-in_err-step
 returns-in_err-step c =
     let p = err_from_is_err_and c.from_residual.result c.from_residual.ensures.1 in
     let v = c.in_err-step.ensures in
-    let b = c.loop-i.invariant.1 in
-    let at-bytes = ap (λ (r : Bor (List ℕ)). step_from r.now c.loop-i.reader.pos) b in
+    let b = c.loop-place.invariant.1 in
+    let at-bytes = ap (λ (r : Bor (List ℕ)). step_from r.now c.loop-place.reader.pos) b in
     rw (p.1, p.2)
     record {
       value =
-          steps-refused c.loop-i.list (c.args.at + c.loop-i.i) (c.args.count - c.loop-i.i) c.args.reader.now.bytes.now c.loop-i.reader.pos _ (omega arith) (v.value ∙ at-bytes)
-          ∙ sym c.loop-i.invariant.0;
+          steps-refused c.loop-place.list c.loop-place.place (c.args.at + c.args.count - c.loop-place.place) c.args.reader.now.bytes.now c.loop-place.reader.pos _ (omega arith) (v.value ∙ at-bytes)
+          ∙ sym c.loop-place.invariant.0;
       same = v.same ∙ b;
     }
 
-pub loop-i-preserved : goal.loop-i-preserved
-loop-i-preserved c =
+pub loop-place-preserved : goal.loop-place-preserved
+loop-place-preserved c =
     let v = c.in_ok-step.ensures in
-    let b = c.loop-i.invariant.1 in
-    let at-bytes = ap (λ (r : Bor (List ℕ)). step_from r.now c.loop-i.reader.pos) b in
-    let m : c.args.count - (c.loop-i.i + 1) ≡ (c.args.count - c.loop-i.i) - 1 = omega arith in
-    let a : c.args.at + (c.loop-i.i + 1) ≡ c.args.at + c.loop-i.i + 1 = omega arith in (
-      c.loop-i.invariant.0
-          ∙ rw (c.put.ensures, m, a) (steps-more c.loop-i.list (c.args.at + c.loop-i.i) (c.args.count - c.loop-i.i) c.args.reader.now.bytes.now c.loop-i.reader.pos _ _ (omega arith) (v.value ∙ at-bytes)),
+    let b = c.loop-place.invariant.1 in
+    let at-bytes = ap (λ (r : Bor (List ℕ)). step_from r.now c.loop-place.reader.pos) b in
+    let m : c.args.at + c.args.count - (c.loop-place.place + 1) ≡ (c.args.at + c.args.count - c.loop-place.place) - 1 = omega arith in (
+      c.loop-place.invariant.0
+          ∙ rw (c.put.ensures, m) (steps-more c.loop-place.list c.loop-place.place (c.args.at + c.args.count - c.loop-place.place) c.args.reader.now.bytes.now c.loop-place.reader.pos _ _ (omega arith) (v.value ∙ at-bytes)),
       v.same ∙ b,
     )
 
 pub returns : goal.returns
 returns c =
-    let l = c.loop-i in
-    let z : c.args.count - l.i ≡ 0 = omega arith in
+    let l = c.loop-place in
+    let z : c.args.at + c.args.count - l.place ≡ 0 = omega arith in
     record {
-      value = sym (l.invariant.0 ∙ ap (λ (n : ℕ). storing l.list (c.args.at + l.i) (steps_from n c.args.reader.now.bytes.now l.reader.pos)) z);
+      value = sym (l.invariant.0 ∙ ap (λ (n : ℕ). storing l.list l.place (steps_from n c.args.reader.now.bytes.now l.reader.pos)) z);
       same = l.invariant.1;
     }

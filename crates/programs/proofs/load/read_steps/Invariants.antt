@@ -4,8 +4,8 @@ use Rattle.programs.specs.Stores.{storing}
 use Rattle.programs.proofs.load.read_steps.Given as goal
 
 -- The steps read so far are stored, and the others follow.
-abbrev pub invariant-loop-i : goal.invariant-loop-i
-invariant-loop-i l =
+abbrev pub invariant-loop-place : goal.invariant-loop-place
+invariant-loop-place l =
     (storing l.initial.list l.at (steps_from l.count l.initial.reader.bytes.now l.initial.reader.pos)
-    ≡ storing l.list (l.at + l.i) (steps_from (l.count - l.i) l.initial.reader.bytes.now l.reader.pos))
+    ≡ storing l.list l.place (steps_from (l.at + l.count - l.place) l.initial.reader.bytes.now l.reader.pos))
     × (l.reader.bytes ≡ l.initial.reader.bytes)

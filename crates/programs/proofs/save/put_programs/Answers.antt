@@ -1,31 +1,23 @@
-use Rattle.std.proofs.Common.{◌≡◌, ◌-◌, take, ◌∙◌, arith}
-use native.Mathlib.Nat.{sub-zero}
-use Rattle.std.proofs.lemmas.List.{take_rest, length-take}
-use Rattle.programs.proofs.Lengths.{word_at, program-put, programs-put}
+use Rattle.std.proofs.Common.{◌≡◌, ◌≤◌, ◌∷◌, length, ◌∙◌, rules, arith}
+use Rattle.std.specs.List.{flat_map}
+use Rattle.netcode.specs.Layouts.{programs_of}
+use Rattle.netcode.specs.Programs.{programs_left}
+use Rattle.programs.specs.Files.{program_numbers}
+use Rattle.programs.proofs.Lengths.{short-cuts}
+use Rattle.programs.proofs.Puttings.{put_then}
 use Rattle.programs.proofs.save.put_programs.Goals as goal
 
-pub put_program-end-requires : goal.put_program-end-requires
-put_program-end-requires c =
-    let w = word_at c.args.layout.now.lengths _ c.loop-number.number c.requires.0 (omega arith) (omega arith) in
-    (simp length-take (omega (arith, w, c.min-length.ensures)), omega (arith, c.loop-number.invariant.1))
+pub loop-program-init : goal.loop-program-init
+loop-program-init c =
+    let e : programs_left c.into_iter-program-iterator.result ≡ programs_of c.args.layout.now c.args.steps.now = search rules in
+    let n : length (programs_left c.into_iter-program-iterator.result) ≤ 16 = search rules in
+    (rw e, rw e (short-cuts _ c.args.steps.now c.requires.0), omega arith)
 
-pub offset_bounds-rest-length : goal.offset_bounds-rest-length
-offset_bounds-rest-length c =
-    let w = word_at c.args.layout.now.lengths _ c.loop-number.number c.requires.0 (omega arith) (omega arith) in
-    omega (arith, w, c.min-length.ensures)
-
-pub loop-number-preserved : goal.loop-number-preserved
-loop-number-preserved c =
-    let xs = c.loop-number.rest.now in
-    let n = c.min-length.result in
-    let p : take (n - 0) xs ≡ take n xs = rw sub-zero in (
-      c.loop-number.invariant.0
-          ∙ program-put c.args.layout.now.lengths _ c.loop-number.number n xs (take (n - 0) xs) _ c.loop-number.out c.loop-number.end _ _ (omega arith) (omega arith) c.min-length.ensures p (take_rest xs n) c.put_program-end.ensures.put,
-      omega (arith, c.loop-number.invariant.1, c.put_program-end.ensures.near),
+pub loop-program-preserved : goal.loop-program-preserved
+loop-program-preserved c =
+    let e : programs_left c.loop-program.program-iterator ≡ c.in-Some.program.now ∷ programs_left c.next.new.self = search rules in
+    let i = rw e at c.loop-program.invariant in (
+      i.0 ∙ put_then _ _ (program_numbers c.in-Some.program.now) (flat_map program_numbers (programs_left c.next.new.self)) _ _ c.put_program-end.ensures.put,
+      i.1.1,
+      omega (arith, i.2, c.put_program-end.ensures.near),
     )
-
-pub returns : goal.returns
-returns c =
-    record {
-      put = c.loop-number.invariant.0 ∙ programs-put c.args.layout.now.lengths _ c.loop-number.number c.loop-number.rest.now c.loop-number.out c.loop-number.end (omega arith);
-    }
