@@ -9,7 +9,8 @@ use plant::Plant;
 use semantics::{Reply, Request};
 use sheet::too_short;
 
-// How many ticks a rehearsal made, and the refusal that ended it.
+// How many ticks a rehearsal made, and the refusal that ended it. (`Reply::Made` spells out the same two: with this type
+// inside, each definition that tells replies apart would unpack it first.)
 #[derive(Clone, Copy)]
 pub struct Rehearsal {
     pub count: u32,

@@ -68,7 +68,9 @@ pub enum AskedPlace {
     Mark { row: u32 },
 }
 
-// A place of any layer, as it is shown to people.
+// A place of any layer, as it is shown to people: each case spells out the numbers that are shown, in their order. (With
+// the layers' types inside, as `Work(WorkPlace)`, whoever shows a place would match twice, and an offset would have two
+// forms.)
 #[derive(Clone, Copy, PartialEq)]
 pub enum Place {
     Offset(usize),

@@ -5,7 +5,8 @@ ghost use Rattle.plant.specs.Replies.{asked, admitted, replied, count_of, first_
 
 use fault::{Fault, Refusal, WorkPlace};
 
-// The input words of a work.
+// The input words of a work. (As a call's `Inputs`, but words: one type for both would let the number of a variable pass
+// for a word.)
 #[derive(Clone, Copy, PartialEq)]
 pub enum Words {
     Nothing,

@@ -46,8 +46,8 @@ pub struct Message {
     pub word: u32,
 }
 
-// A run: 64 places for each of 8 stations, a cell for each keep row, a mark for each row, a unit for each program,
-// the line, and how many ticks were granted, which is the clock.
+// A run, in fixed memory: 64 places for each of 8 stations, in one list, a cell for each keep row, a mark for each row, a
+// unit for each program, the line, and how many ticks were granted, which is the clock.
 #[derive(Clone, Copy)]
 pub struct State {
     pub places: [Option<u32>; 512],

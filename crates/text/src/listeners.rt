@@ -56,7 +56,7 @@ fn maybe(listeners: u32, station: u8) -> Listener
     Listener { listeners, station }
 }
 
-// The stations that listen.
+// The stations that listen. (Eight names in one `write!`: a loop of eight would need an invariant of what the writer holds.)
 #[derive(Clone, Copy)]
 pub struct Listeners(pub u32);
 
