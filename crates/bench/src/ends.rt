@@ -74,6 +74,7 @@ impl Machine {
         requires { count ≤ 16 }
         ensures { (programs : List (List Step)) (p : P.model.State) → outcome result (world self.new.state p) ≡ second_part P.model programs clock count (world self.old.state p) }
     {
+        // By number: a loop over the machine's own units would hold the machine that each of them changes.
         for number in 0..count {
             self.finish::<P>(Program { number }, clock)?;
         }

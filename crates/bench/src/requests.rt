@@ -23,6 +23,7 @@ impl Run {
         ensures rehearsal { ticks_made result.count result.ended (world_in self.new (P.meaning plant.new)) ≡ rehearsed P.model (programs_in self.old) n (world_in self.old (P.meaning plant.old)) }
         ensures programs { SamePrograms self.old self.new }
     {
+        // The number of ticks made is the answer: no list stands behind it.
         for count in 0..n {
             if let Err(fault) = self.tick(plant) {
                 let ended = Some(fault);

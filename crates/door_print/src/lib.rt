@@ -13,6 +13,7 @@ use text::RefusedLine;
 
 fn print_marks(rt: &HostRuntime, run: &Run, rows: u32, between: &str) -> anyhow::Result<()> {
     rt.print("row count tick read read given")?;
+    // A run tells its marks by number, one at a time.
     for row in 0..rows {
         if let Ok(mark) = run.mark_at(row) {
             rt.print(between)?;

@@ -135,6 +135,7 @@ fn require_at(above: &[Row], station: u32, s: Send) -> Result<(), Missing>
 fn require_at_listeners(above: &[Row], stations: u32, s: Send) -> Result<(), Missing>
     ensures { missing result ≡ first_unavailable above.now (listener_needs s stations 0) }
 {
+    // Stations are the numbers of bits: no list stands behind them.
     for n in 0..stations.min(32) {
         require_at(above, n, s)?;
     }

@@ -23,7 +23,8 @@ pub struct Script<'a> {
     from: [Cursor; 8],
 }
 
-// The next pair, a station and a word. A fault leaves the reader at its offset.
+// The next pair, a station and a word. A fault leaves the reader at its offset, which the numbers of a program file do not
+// say of theirs.
 fn read_pair(reader: &mut Reader) -> Result<(u32, u32), Fault<Offset>>
     ensures value { result ≡ pair_at reader.old.bytes.now reader.old.pos }
     ensures next { reader.new.pos ≡ after_pair reader.old.bytes.now reader.old.pos }
@@ -84,6 +85,7 @@ fn next_word(bytes: &[u8], station: u32, from: Cursor) -> (u32, Cursor)
 fn pairs_end(reader: &mut Reader, count: u32) -> Result<usize, Fault<Offset>>
     ensures { result ≡ pairs_end count reader.old.bytes.now reader.old.pos }
 {
+    // As many pairs as the script says it has: `Pairs` stops silently where one cannot be read, and here that is refused.
     for _ in 0..count {
         read_pair(reader)?;
     }

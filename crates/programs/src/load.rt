@@ -31,6 +31,7 @@ fn read_steps(
     ensures value { left result list.new reader.new.pos ≡ storing list.old at (steps_from count reader.old.bytes.now reader.old.pos) }
     ensures same { reader.new.bytes ≡ reader.old.bytes }
 {
+    // By place: the list may have fewer places than the file has steps, and then the others are read all the same.
     for place in at..at + count as usize {
         let step = read_step(reader)?;
         put(list, place, step);

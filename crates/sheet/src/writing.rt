@@ -86,7 +86,8 @@ fn rows_size(rows: &[Row]) -> u128
     size
 }
 
-// Writes rows where there is room for them, and says where they end.
+// Writes rows where there is room for them, and says where they end. (Numbers are laid by such a loop too: one loop for both
+// would take what it puts as a closure over the list, and its contract a relation of lists in place of these two equations.)
 fn put_rows(out: &mut [u8], at: usize, rows: &[Row]) -> usize
     requires { at + length (spelled (rows_numbers rows.now)) ≤ length out.old }
     ensures end { result ≡ at + length (spelled (rows_numbers rows.now)) }

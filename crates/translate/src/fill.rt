@@ -12,6 +12,7 @@ pub fn all_lengths(head: Head, rows: &[Row]) -> usize
     ensures { result ≡ needed head rows.now }
 {
     let mut sum = 0;
+    // Programs are numbers until they are written: no list stands behind them, here and below.
     for number in 0..program_count(head.stations) {
         sum += Program::new(head, rows, number as u32).length();
     }

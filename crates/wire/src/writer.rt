@@ -25,6 +25,7 @@ pub fn number_bytes(n: u32) -> ArrayVec<u8, 5>
 {
     let mut bytes = ArrayVec::new();
     let mut rest = n;
+    // The groups of a number end where it does: no list stands behind them.
     while rest >= 128 {
         bytes.push((rest % 128 + 128) as u8);
         rest /= 128;
