@@ -24,9 +24,6 @@ module _ (m : Model) (ps : List (List Step)) where
   abbrev pub Left : List Request → World m.State → ℕ → World m.State → Type 0
   Left qs w i v = served_all m ps (drop i qs) v ≡ record { replies = drop i (served_all m ps qs w).replies; world = (served_all m ps qs w).world }
 
-  pub left-none : (qs : List Request) (w : World m.State) → Left qs w 0 w
-  left-none qs w = refl
-
   first_of : (q : Request) (qs : List Request) (v u : World m.State) (r : Reply) → replied r u ≡ served m ps q v
       → served_all m ps (q ∷ qs) v ≡ record { replies = r ∷ (served_all m ps qs u).replies; world = (served_all m ps qs u).world }
   unfolding served_all

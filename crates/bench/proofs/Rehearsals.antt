@@ -1,6 +1,5 @@
 -- One tick more of a rehearsal, one request more of a list.
 use Rattle.std.proofs.Common.{◌≡◌, ℕ, suc, ◌+◌, ◌-◌, ◌<◌, List, Some, None, vec_items, sym, ap, ◌∙◌, zero-add, arith}
-use native.Mathlib.Nat.{sub-zero}
 use Rattle.fault.specs.declared.refusal.Fault.{Fault}
 use Rattle.fault.specs.declared.place.TickPlace.{TickPlace}
 use Rattle.netcode.specs.declared.step.Step.{Step}
@@ -27,12 +26,6 @@ module _ (m : Model) (ps : List (List Step)) where
   counted-on k r =
       let e : r.count + 1 + k ≡ r.count + (k + 1) = omega arith in
       ap (λ (n : ℕ). record { count = n; ended = r.ended; world = r.world }) e
-
-  pub none_made : (n : ℕ) (w : World m.State) → rehearsed m ps n w ≡ after 0 (rehearsed m ps (n - 0) w)
-  none_made n w =
-      let r = rehearsed m ps n w in
-      let e : r.count ≡ r.count + 0 = omega arith in
-      ap (λ (c : ℕ). record { count = c; ended = r.ended; world = r.world }) e ∙ ap (λ j. after 0 (rehearsed m ps j w)) (sym (sub-zero n))
 
   more : (n k : ℕ) (w : World m.State) → k < n → rehearsed m ps (n - k) w ≡ rehearsed_on m ps (tick m ps w) (rehearsed m ps (n - (k + 1)))
   unfolding rehearsed

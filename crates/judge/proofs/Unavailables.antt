@@ -4,11 +4,9 @@ use Rattle.sheet.specs.declared.row.Condition.{Condition}
 use Rattle.sheet.specs.declared.row.Send.{Send}
 use Rattle.judge.specs.declared.need.Need.{Need}
 use Rattle.std.proofs.lemmas.Bool.{le-ltb}
-use Rattle.judge.specs.Verdict.{listens, available, first_unavailable, need_at, joined, test_needs, heard_needs, listener_needs}
+use Rattle.judge.specs.Verdict.{listens, available, first_unavailable, need_at, joined, heard_needs, listener_needs}
 use Rattle.sheet.specs.declared.row.Test.{Test}
 use Rattle.sheet.specs.declared.row.Condition.{Condition}
-use Rattle.sheet.specs.declared.row.Condition.TheVariants.{Always, One, Two, Three, Four}
-use Rattle.sheet.specs.Rows.{tests_of}
 use Rattle.judge.proofs.Bitwise.{listens-none}
 
 abbrev pub or_later : Option ℕ → Option ℕ → Option ℕ
@@ -55,11 +53,3 @@ heard-rest above s k n l (inr h) = heard-beyond above s (k - n) n l h
 abbrev pub needs_after : ℕ → ℕ → Condition → List Test → List Need
 needs_after station date after [] = []
 needs_after station date after (t ∷ ts) = need_at station date t.variable after ∷ needs_after station date (joined after t) ts
-
--- All tests come after none.
-pub needs-tests : (station date : ℕ) (c : Condition) → needs_after station date Always (tests_of c) ≡ test_needs station date c
-needs-tests station date Always = refl
-needs-tests station date (One a) = refl
-needs-tests station date (Two a b) = refl
-needs-tests station date (Three a b d) = refl
-needs-tests station date (Four a b d e) = refl

@@ -1,5 +1,5 @@
 -- Numbers written one after the other.
-use Rattle.std.proofs.Common.{◌≡◌, ℕ, ◌+◌, ◌<◌, ◌≤◌, List, [], ◌∷◌, ◌++◌, length, get_or, take, drop, Ok, sym, refl, ap, ◌∙◌, append_assoc, append-nil, add-zero, arith, length-append, length-drop, take-append-drop, length-take}
+use Rattle.std.proofs.Common.{◌≡◌, ℕ, ◌+◌, ◌<◌, ◌≤◌, List, [], ◌∷◌, ◌++◌, length, get_or, take, drop, Ok, sym, refl, ap, ◌∙◌, append_assoc, append-nil, arith, length-append, length-drop, take-append-drop, length-take}
 use Rattle.std.proofs.lemmas.List.{drop-drop, drop_at, take_at, take_more, drop_more}
 use Rattle.std.proofs.lemmas.Bool.{le-ltb}
 use Rattle.wire.specs.Bytes.{bytes_of, spelled, end_of, placed}
@@ -43,9 +43,6 @@ placed-more out at xs ys h =
     rw (le-ltb (length (take at out ++ (xs ++ drop (at + length xs) out))) (at + length xs + length ys) (omega arith), t, e)
     (append_assoc (take at out) xs (ys ++ drop (at + length (xs ++ ys)) out)
     ∙ ap (λ (zs : List ℕ). take at out ++ zs) (sym (append_assoc xs ys (drop (at + length (xs ++ ys)) out))))
-
-pub nothing_placed : (out : List ℕ) (at : ℕ) → take at out ++ ([] ++ drop (at + 0) out) ≡ out
-nothing_placed out at = rw add-zero (take-append-drop at out)
 
 pub end-room : (room at : ℕ) (xs : List ℕ) → at + length xs ≤ room → end_of room at xs ≡ Ok (at + length xs)
 end-room room at xs h = rw (le-ltb room (at + length xs) h)
