@@ -13,6 +13,7 @@ pub struct Column<const WIDTH: usize>(pub u64);
 impl<const WIDTH: usize> fmt::Display for Column<WIDTH> {
     ghost output = { λ x. Some (column WIDTH x.0) };
 
+    #[tactic(auto, using(crate::proofs::Columns::styled))]
     fn fmt<W: fmt::Write>(&self, f: &mut fmt::Formatter<W>) -> fmt::Result {
         let n = self.0;
         write!(f, "{n:>WIDTH$}")
