@@ -1,18 +1,9 @@
 -- Writing numbers one after the other.
-use Rattle.std.proofs.Common.{◌≡◌, ℕ, ◌+◌, ◌<◌, ◌≤◌, List, [], ◌∷◌, ◌++◌, length, get_or, take, drop, sym, refl, ap, ◌∙◌, append_assoc, add-zero, add_assoc, arith, length-append, length-drop, take-append-drop, length-take}
-use Rattle.std.specs.List.{flat_map}
-use Rattle.std.proofs.lemmas.List.{at_drop_more, at_drop_all, length-take-le, take_at, drop_at, drop-drop}
+use Rattle.std.proofs.Common.{◌≡◌, ℕ, ◌+◌, ◌≤◌, List, [], ◌∷◌, ◌++◌, length, take, drop, sym, refl, ap, ◌∙◌, append_assoc, add-zero, add_assoc, arith, length-append, length-drop, take-append-drop, length-take}
+use Rattle.std.proofs.lemmas.List.{length-take-le, take_at, drop_at, drop-drop}
 use Rattle.std.proofs.lemmas.Bool.{le-ltb}
 use Rattle.wire.specs.Bytes.{bytes_of, spelled}
 use Rattle.programs.specs.Stores.{written, putting}
-
-pub put-more : (out : List ℕ) (at : ℕ) (ns : List ℕ) (i : ℕ) (out' : List ℕ) (at' : ℕ) → i < length ns
-    → out' ≡ written out at (get_or ns i 0) → at' ≡ at + length (bytes_of (get_or ns i 0))
-    → putting out at (drop i ns) ≡ putting out' at' (drop (i + 1) ns)
-put-more out at ns i out' at' h p q = at_drop_more (putting out at) ns i 0 h ∙ rw (p, q)
-
-pub put_all : (out : List ℕ) (at : ℕ) (ns : List ℕ) (i : ℕ) → length ns ≤ i → putting out at (drop i ns) ≡ (out, at)
-put_all out at ns i h = at_drop_all (putting out at) ns i h
 
 -- Writing one part and then the other.
 pub put-parts : (out : List ℕ) (at : ℕ) (ns ms : List ℕ) → putting out at (ns ++ ms) ≡ putting (putting out at ns).0 (putting out at ns).1 ms
@@ -22,17 +13,6 @@ put-parts out at (n ∷ ns) ms = put-parts (written out at n) (at + length (byte
 pub put_then : (out : List ℕ) (at : ℕ) (ns ms out' : List ℕ) (at' : ℕ) → putting out at ns ≡ (out', at')
     → putting out at (ns ++ ms) ≡ putting out' at' ms
 put_then out at ns ms out' at' e = put-parts out at ns ms ∙ ap (λ (p : List ℕ × ℕ). putting p.0 p.1 ms) e
-
--- One of a list's elements more, each of which is written as the numbers that `f` says.
-pub put_item : {X : Type 0} (f : X → List ℕ) (out : List ℕ) (at : ℕ) (xs : List X) (i : ℕ) (d : X) (out' : List ℕ) (at' : ℕ) → i < length xs
-    → putting out at (f (get_or xs i d)) ≡ (out', at')
-    → putting out at (flat_map f (drop i xs)) ≡ putting out' at' (flat_map f (drop (i + 1) xs))
-put_item f out at xs i d out' at' h e =
-    at_drop_more (λ ys. putting out at (flat_map f ys)) xs i d h ∙ put_then out at (f (get_or xs i d)) (flat_map f (drop (i + 1) xs)) out' at' e
-
-pub put-items : {X : Type 0} (f : X → List ℕ) (out : List ℕ) (at : ℕ) (xs : List X) (i : ℕ) → length xs ≤ i
-    → putting out at (flat_map f (drop i xs)) ≡ (out, at)
-put-items f out at xs i h = at_drop_all (λ ys. putting out at (flat_map f ys)) xs i h
 
 -- Where numbers end that are written from `at` on.
 pub put-end : (out : List ℕ) (at : ℕ) (ns : List ℕ) → (putting out at ns).1 ≡ at + length (spelled ns)

@@ -13,10 +13,6 @@ returns-in_err-fit_row g c =
     sym (c.loop-at.invariant ∙ fit-more m c.args.rows.now c.loop-at.at _ _ (omega (arith, c.loop-at-test.true)) c.in_err-fit_row.ensures) in
     rw (p.1, p.2) record { value = e; means = fit-means m c.args.rows.now _ e }
 
-pub loop-at-preserved : goal.loop-at-preserved
-loop-at-preserved g c =
-    c.loop-at.invariant ∙ fit-more g.P.Plant.model c.args.rows.now c.loop-at.at _ _ (omega (arith, c.loop-at-test.true)) c.in_ok-fit_row.ensures
-
 pub returns : goal.returns
 returns g c =
     let m = g.P.Plant.model in
