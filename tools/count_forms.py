@@ -59,7 +59,7 @@ search(3, "an index or a count that a loop counts", r"for [a-z_]+ in [0-9a-z]+\.
 search(3, "a loop that goes on by hand", r"^\s*while (?!let)[^{]*\{")
 search(4, "a row of zeros spelled out", r"Keep \{\s*station: 0,\s*taken: 0,\s*given: 0,\s*first: 0,\s*\}")
 search(4, "equality or a conversion spelled out", r"fn same_\w+|fn \w+_code\(|fn refused\(refusal: Refusal, place")
-search(4, "a copy field by field", r"= UnitState \{|let \w+ \{ \w+(?:: _)?, \w+ \} = self;|let next = self\.pos;")
+search(4, "a copy field by field", r"= UnitState \{|let \w+ \{ \w+: _, \w+ \} = self;|let next = self\.pos;")
 search(6, "a list and its length as a pair", r"-> \(\[u\d+; \d+\], usize\)")
 search(6, "a list cut by hand", r"\.min\(rest\.len\(\)\)|if rest\.len\(\) < length")
 search(7, "a step chosen by a number", r"match kind \{|match plant \{|if kind == 0|match word\.as_str\(\) \{")

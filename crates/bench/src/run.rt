@@ -8,7 +8,8 @@ use crate::machine::Machine;
 use netcode::{Layout, Step};
 
 // A run: programs that keep the rules, and the machine that they run on. No row is counted more than once for each unit
-// and tick, so that no count overflows.
+// and tick, so that no count overflows. (That a call leaves the programs as they are stands in its contract: it is said of a
+// run before and after, which no ghost field of one value can say.)
 #[derive(Drop)]
 pub struct Run {
     pub(crate) layout: Layout,

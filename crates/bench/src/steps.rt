@@ -13,7 +13,9 @@ use plant::Plant;
 use semantics::{Job, Message};
 use sheet::Relation;
 
-// A method's `P` is the kind of plant whose machine its contract speaks of. Only CALL asks the plant itself.
+// A method's `P` is the kind of plant whose machine its contract speaks of. Only CALL asks the plant itself. (`Room` is of a
+// machine and of the program whose turn it is, so that it is no fact of the machine alone; and a type for a cell or a
+// duration within its limits would have each field of a step wrapped first.)
 impl Machine {
     // TEST: where it fails, the step goes to the address it names.
     pub(crate) fn test<P: Plant>(

@@ -25,7 +25,8 @@ fn layout_within(layout: &Layout) -> bool
     0 < layout.stations && layout.stations < 9 && lengths_within(layout)
 }
 
-// Writes the programs from `at` on, and says where they end.
+// Writes the programs from `at` on, and says where they end. (A layout and its steps stay two arguments, here and below, as
+// `write` takes them: one value of both would be taken apart again by `programs`.)
 fn put_programs(out: &mut [u8], at: usize, layout: &Layout, steps: &[Step]) -> usize
     requires { (all_words (take (program_count layout.now.stations) layout.now.lengths) ≡ true) × (at ≤ 10) }
     ensures put { putting out.old at (flat_map program_numbers (programs_of layout.now steps.now)) ≡ (out.new, result) }

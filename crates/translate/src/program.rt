@@ -8,7 +8,8 @@ use judge::is_listener;
 use netcode::{Step, line_program, station_of};
 use sheet::{Head, Keep, Row};
 
-// A program of a sheet that keeps its limits: the sheet's rows, its cycle, and the program's number.
+// A program of a sheet that keeps its limits: the sheet's rows, its cycle, and the program's number. (`Bounded` is asked where
+// programs are made; for the sheet as a whole it would take a third type that only makes them.)
 #[derive(Clone, Copy)]
 pub struct Program<'a> {
     pub rows: &'a [Row],
