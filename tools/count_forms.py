@@ -62,7 +62,7 @@ search(4, "equality or a conversion spelled out", r"fn same_\w+|fn \w+_code\(|fn
 search(4, "a copy field by field", r"= UnitState \{|let \w+ \{ \w+: _, \w+ \} = self;|let next = self\.pos;")
 search(6, "a list and its length as a pair", r"-> \(\[u\d+; \d+\], usize\)")
 search(6, "a list cut by hand", r"\.min\(rest\.len\(\)\)|if rest\.len\(\) < length")
-search(7, "a step chosen by a number", r"match kind \{|match plant \{|if kind == 0|match word\.as_str\(\) \{")
+search(7, "a step chosen by a number", r"match kind \{|match plant \{|if kind == 0|=> \(\d+, \d+, \d\)", lambda n: not n.endswith("tests.rt"))
 
 # Functions, by their clauses and by the shape of their text.
 FN = re.compile(r"^( *)(?:pub(?:\(crate\))? )?fn (\w+)[^;{]*?(?:\n[^\n]*?)*?\n\1\{\n(.*?)\n\1\}$", re.M | re.S)

@@ -64,22 +64,20 @@ impl Machine {
         if self.is_busy(at.program) {
             return Err(at.fault(Refusal::UnitBusy));
         }
-        match plant.perform(at.program.station() as u32, call.work, words) {
-            Err(fault) => Err(at.carried_up(fault)),
-            Ok(answer) => {
-                let end = self.state.granted + call.duration;
-                self.mark(call.row, first_word(words), second_word(words), answer);
-                self.set_job(
-                    at.program,
-                    Job::Store {
-                        end,
-                        variable: call.output,
-                        word: answer,
-                    },
-                );
-                Ok(Some(at.next()))
-            }
-        }
+        let word = plant
+            .perform(at.program.station() as u32, call.work, words)
+            .map_err(|fault| at.carried_up(fault))?;
+        let end = self.state.granted + call.duration;
+        self.mark(call.row, first_word(words), second_word(words), word);
+        self.set_job(
+            at.program,
+            Job::Store {
+                end,
+                variable: call.output,
+                word,
+            },
+        );
+        Ok(Some(at.next()))
     }
 
     // SEND tries 16, 17 and 14; then the line carries the word for the duration.

@@ -9,11 +9,10 @@ ghost use Rattle.cases.specs.Parts.{part_in, shown, GivesPart, GivesPair};
 pub fn next_part(cases: &[u8]) -> Option<(&[u8], &[u8])>
     ensures { shown result ≡ part_in cases.now }
 {
-    if cases.len() < 2 {
+    let [low, high, after @ ..] = cases else {
         return None;
-    }
-    let size = cases[0] as usize + 256 * (cases[1] as usize);
-    let (_, after) = cases.split_at(2);
+    };
+    let size = usize::from(u16::from_le_bytes([*low, *high]));
     if after.len() < size {
         return None;
     }

@@ -58,14 +58,19 @@ impl<P> Fault<P> {
     }
 }
 
+impl From<Offset> for BytesPlace {
+    ghost from_gives = { λ p r. r ≡ AtOffset p.0 };
+
+    fn from(p: Offset) -> BytesPlace {
+        BytesPlace::Offset(p.0)
+    }
+}
+
 // What the number reader refuses is refused, whole, by whoever reads bytes.
 impl From<Fault<Offset>> for Fault<BytesPlace> {
     ghost from_gives = { λ f r. r ≡ record { refusal = f.refusal; place = AtOffset f.place.0 } };
 
     fn from(f: Fault<Offset>) -> Fault<BytesPlace> {
-        Fault {
-            refusal: f.refusal,
-            place: BytesPlace::Offset(f.place.0),
-        }
+        f.carried()
     }
 }

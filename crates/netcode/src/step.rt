@@ -48,8 +48,8 @@ pub enum Step {
 }
 
 // How a flat list of steps is cut into programs: the length of program p stands at p. A station has two
-// programs, so those at and above twice the stations have length 0. (Memory is fixed, so sixteen lengths: a list with a
-// length of its own would say a second time how many programs the stations have.)
+// programs, so those at and above twice the stations have length 0. (Not a list with a
+// length of its own: that would say a second time how many programs the stations have.)
 #[derive(Clone, Copy)]
 pub struct Layout {
     pub stations: u32,

@@ -28,7 +28,8 @@ pub struct Test {
     pub word: u32,
 }
 
-// The tests that must hold for a row to be performed, in their order.
+// The tests that must hold for a row to be performed, in their order. (Five cases, and no list of fixed capacity: rows are
+// copied, and such a list is not `Copy`. `tests` gives the list.)
 #[derive(Clone, Copy, PartialEq)]
 pub enum Condition {
     Always,

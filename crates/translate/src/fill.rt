@@ -12,7 +12,7 @@ pub fn all_lengths(head: Head, rows: &[Row]) -> usize
     ensures { result ≡ needed head rows.now }
 {
     let mut sum = 0;
-    // Programs are numbers until they are written: no list stands behind them, here and below.
+    // Programs are numbers until they are written: no list stands behind them.
     for number in 0..program_count(head.stations) {
         sum += Program::new(head, rows, number as u32).length();
     }
@@ -28,6 +28,7 @@ pub fn put_programs(head: Head, rows: &[Row], steps: &mut [Step]) -> [usize; 16]
 {
     let mut lengths = [0; 16];
     let mut at = 0;
+    // By number: after an adapter of `iter_mut`, as `enumerate`, a proof would know none of the lengths.
     for number in 0..program_count(head.stations) {
         let length = Program::new(head, rows, number as u32).put(&mut steps[at..]);
         lengths[number] = length;

@@ -1,5 +1,4 @@
-use Rattle.std.proofs.Common.{ℕ, List, length, get_or, take, ap, ◌∙◌, arith, length-append}
-use Rattle.std.proofs.lemmas.List.{take_all}
+use Rattle.std.proofs.Common.{length, get_or, take, ap, ◌∙◌, arith, length-append}
 use Rattle.wire.specs.Bytes.{spelled, bytes_of}
 use Rattle.wire.proofs.Laid.{spelled-more}
 use Rattle.wire.proofs.writer.numbers_size.Goals as goal
@@ -10,7 +9,3 @@ loop-n-preserved c =
     let i = c.loop-n.n-index in
     let e = ap length (spelled-more ns i c.loop-n-test.true) ∙ length-append (spelled (take i ns)) (bytes_of (get_or ns i 0)) in
     (omega (arith, e, c.loop-n.invariant.0, ap length c.number_bytes.ensures), omega (arith, c.loop-n.invariant.1))
-
-pub returns : goal.returns
-returns c =
-    c.loop-n.invariant.0 ∙ ap (λ (xs : List ℕ). length (spelled xs)) (take_all c.loop-n.n-index c.args.numbers.now c.loop-n-test.false)
