@@ -75,7 +75,10 @@ fn sparse_row(n: u32) -> Row {
 fn measure<F: Fn(u32) -> Row>(rt: &HostRuntime, head: Head, row: F) -> anyhow::Result<()>
     requires { F.IsAlwaysCallable row }
 {
-    let rows = (0..128u32).map(row).collect(rt.alloc())?;
+    let mut rows = vec![in rt.alloc(); Row::default(); 128]?;
+    for (n, place) in (0..128u32).zip(rows.iter_mut()) {
+        *place = row(n);
+    }
     let Ok(draft) = Draft::of(head, rows) else {
         return Err(anyhow!("no draft"));
     };
