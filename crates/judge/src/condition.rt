@@ -1,4 +1,6 @@
-ghost use Rattle.std.specs.Prelude.{◌≡◌};
+ghost use Rattle.std.specs.Prelude.{◌≡◌, Bool};
+ghost use Rattle.std.specs.List.{list_any};
+ghost use Rattle.sheet.specs.declared.row.Test.{Test};
 ghost use Rattle.sheet.specs.Rows.{tests_of};
 ghost use Rattle.judge.specs.Tests.{opposed, opposed_to, excluding, among, all_among, all_within, tested, none_twice};
 
@@ -18,17 +20,32 @@ fn is_opposed(s: Test, t: Test) -> bool
         }
 }
 
+// Whether some test of a condition passes a question. (By the cases: lists of the tests, made anew for each pair of rows,
+// made judging half as long again.)
+fn some_test<F: Fn(Test) -> bool>(c: Condition, question: F) -> bool
+    requires { F.IsAlwaysCallable question }
+    ensures { (passes : Test → Bool) → ((t : Test) (b : Bool) → F.post question t b → b ≡ passes t) → result ≡ list_any passes (tests_of c) }
+{
+    match c {
+        Condition::Always => false,
+        Condition::One(a) => question(a),
+        Condition::Two(a, b) => question(a) || question(b),
+        Condition::Three(a, b, d) => question(a) || question(b) || question(d),
+        Condition::Four(a, b, d, e) => question(a) || question(b) || question(d) || question(e),
+    }
+}
+
 fn is_opposed_to(s: Test, c: Condition) -> bool
     ensures { result ≡ opposed_to s (tests_of c) }
 {
-    c.tests().iter().any(|t| is_opposed(s, *t))
+    some_test(c, |t| is_opposed(s, t))
 }
 
 // Whether the two conditions can never hold together.
 pub fn excludes(one: Condition, other: Condition) -> bool
     ensures { result ≡ excluding (tests_of one) (tests_of other) }
 {
-    one.tests().iter().any(|s| is_opposed_to(*s, other))
+    some_test(one, |s| is_opposed_to(s, other))
 }
 
 fn is_among(s: Test, c: Condition) -> bool
