@@ -12,20 +12,17 @@ use Rattle.sheet.specs.declared.row.Keep.{Keep}
 use Rattle.sheet.specs.declared.row.Row.{Row}
 use Rattle.sheet.specs.Rows.{row_at, no_row}
 use Rattle.netcode.specs.declared.step.Step.{Step}
-use Rattle.translate.specs.Programs.{kept_in, made_of, kept_to}
-use Rattle.translate.specs.Translation.{belongs, date_of, tests_in, is_date, some_due, row_length, rows_length}
+use Rattle.translate.specs.Programs.{steps_in, kept_in, made_of, kept_to}
+use Rattle.translate.specs.Translation.{belongs, date_of, is_date, some_due, row_length, rows_length}
 use Rattle.translate.proofs.Dates.{rows-push}
 
 -- One row more.
 pub take-row : (rows : List Row) (n : ℕ) → n < length rows → take (suc n) rows ≡ take n rows ++ row_at rows n ∷ []
 take-row rows n l = ap (λ (k : ℕ). take k rows) (sym (add-one n)) ∙ take_more rows n no_row l
 
--- Whether a row is the program's and has a date, and how many steps a row has.
+-- Whether a row is the program's and has a date.
 abbrev pub due : ℕ → ℕ → Row → Bool
 due p date row = belongs p row && eqb (date_of row) date
-
-abbrev pub steps_in : Row → ℕ
-steps_in row = length (tests_in row) + 3
 
 module _ (cycle : ℕ) (rows : List Row) (p date : ℕ) where
   dated-so-far : (n : ℕ) → n ≤ length rows → list_any (due p date) (take n rows) ≡ some_due cycle rows p date n

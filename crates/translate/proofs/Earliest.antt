@@ -1,27 +1,12 @@
--- The first of a program's dates in a span, as the least of those of its rows.
-use Rattle.std.proofs.Common.{◌≡◌, ℕ, zero, suc, ◌+◌, ◌<◌, ◌≤◌, min, Bool, true, false, cond, ◌&&◌, ltb, leb, ◌⊎◌, List, [], ◌∷◌, ◌++◌, map, filter, length, take, Option, Some, None, MatchOption, subst, sym, refl, ap, ◌∙◌, inl, inr, append-nil, add-one, arith}
-use Rattle.std.specs.List.{reduce, fold}
+-- The first of a program's dates in a span.
+use Rattle.std.proofs.Common.{◌≡◌, ℕ, ◌+◌, ◌<◌, ◌≤◌, min, Bool, true, false, cond, ltb, ◌⊎◌, length, Option, Some, None, MatchOption, subst, refl, ap, ◌∙◌, inl, inr, arith}
+use Rattle.std.specs.Bool.{then_some}
 use Rattle.std.proofs.lemmas.Bool.{cases_lt, lt-ltb, le-ltb}
-use Rattle.std.proofs.lemmas.List.{take_more, map-append}
-use Rattle.std.proofs.Math.Seq.{take-length}
-use Rattle.std.proofs.lemmas.List.Elements.{filter-append}
-use Rattle.std.proofs.lemmas.List.Sums.{fold-append}
-use Rattle.sheet.specs.declared.row.Row.{Row}
-use Rattle.sheet.specs.Rows.{row_at, no_row}
 use Rattle.translate.specs.declared.each_date.Dates.{Dates}
 use Rattle.translate.specs.declared.program.Program.{Program}
 use Rattle.translate.specs.Dates.{IsFirst, NextDate}
 use Rattle.translate.specs.Programs.{is_date_of, first_date_of}
-use Rattle.translate.specs.Translation.{belongs, date_of, first_among, first_date}
-use Rattle.translate.proofs.Dates.{first-none, first_more, first-late, first-date}
-
-least-of-none : (xs : List ℕ) (y : ℕ) → reduce min xs ≡ None → reduce min (xs ++ y ∷ []) ≡ Some y
-least-of-none [] y e = refl
-least-of-none (x ∷ xs) y e = cc
-
-least-of-more : (xs : List ℕ) (y m : ℕ) → reduce min xs ≡ Some m → reduce min (xs ++ y ∷ []) ≡ Some (min m y)
-least-of-more [] y m e = cc
-least-of-more (x ∷ xs) y m e = let z : fold min x xs ≡ m = cc in ap Some (fold-append min x xs (y ∷ []) ∙ ap (λ (k : ℕ). min k y) z)
+use Rattle.translate.proofs.Dates.{first-late, first-date}
 
 -- A number, if it lies before `until`.
 abbrev pub before : ℕ → ℕ → Option ℕ
@@ -33,46 +18,18 @@ before-some until n l = rw (lt-ltb n until l)
 before-none : (until n : ℕ) → until ≤ n → before until n ≡ None
 before-none until n l = rw (le-ltb n until l)
 
-abbrev pub within : ℕ → ℕ → ℕ → Bool
-within from until d = leb from d && ltb d until
+-- One row more lowers the first date, cut off at `until`, as it lowers the first date.
+pub one-more : (until D F : ℕ) (b : Bool) → cond b (min (min until F) D) (min until F) ≡ min until (cond b (min D F) F)
+one-more until D F true = omega arith
+one-more until D F false = refl
 
-one-more : (from until D F : ℕ) (b : Bool) (xs : List ℕ) → reduce min xs ≡ before until F
-    → reduce min (xs ++ filter (within from until) (cond b (D ∷ []) [])) ≡ before until (cond (b && leb from D) (min D F) F)
-one-more from until D F false xs e = rw (append-nil xs) e
-one-more from until D F true xs e = late (leb from D)
+-- The first date, cut off at `until`, tells whether it lies before.
+pub cut-off : (until F : ℕ) → then_some (ltb (min until F) until) (min until F) ≡ before until F
+cut-off until F = go (cases_lt F until)
   where
-    late : (l : Bool) → reduce min (xs ++ cond (l && ltb D until) (D ∷ []) []) ≡ before until (cond l (min D F) F)
-    late false = rw (append-nil xs) e
-    late true = go (cases_lt D until) (cases_lt F until)
-      where
-        go : (D < until) ⊎ (until ≤ D) → (F < until) ⊎ (until ≤ F) → reduce min (xs ++ cond (ltb D until) (D ∷ []) []) ≡ before until (min D F)
-        go (inl l) (inl m) = rw (lt-ltb D until l) (least-of-more xs D F (e ∙ before-some until F m) ∙ ap Some (omega arith) ∙ sym (before-some until (min D F) (omega arith)))
-        go (inl l) (inr m) = let z : min D F ≡ D = omega arith in rw (lt-ltb D until l) (least-of-none xs D (e ∙ before-none until F m) ∙ sym (ap (before until) z ∙ before-some until D l))
-        go (inr l) (inl m) = let z : min D F ≡ F = omega arith in rw (le-ltb D until l, append-nil xs) (e ∙ sym (ap (before until) z))
-        go (inr l) (inr m) = rw (le-ltb D until l, append-nil xs) (e ∙ before-none until F m ∙ sym (before-none until (min D F) (omega arith)))
-
-module _ (cycle : ℕ) (rows : List Row) (p from until : ℕ) where
-  one-row : (row : Row) (b : Bool) → map date_of (cond b (row ∷ []) []) ≡ cond b (date_of row ∷ []) []
-  one-row row true = refl
-  one-row row false = refl
-
-  least-so-far : (n : ℕ) → until ≤ cycle → n ≤ length rows → reduce min (filter (within from until) (map date_of (filter (belongs p) (take n rows)))) ≡ before until (first_among cycle rows p from n)
-  least-so-far zero u l = sym (ap (before until) (first-none cycle rows p from) ∙ before-none until cycle u)
-  least-so-far (suc n) u l =
-      let row = row_at rows n in
-      let t : take (suc n) rows ≡ take n rows ++ row ∷ [] = ap (λ (k : ℕ). take k rows) (sym (add-one n)) ∙ take_more rows n no_row (omega arith) in
-      ap (λ (xs : List Row). reduce min (filter (within from until) (map date_of (filter (belongs p) xs)))) t
-      ∙ ap (λ (xs : List Row). reduce min (filter (within from until) (map date_of xs))) (filter-append (belongs p) (take n rows) (row ∷ []))
-      ∙ ap (λ (xs : List ℕ). reduce min (filter (within from until) xs)) (map-append date_of (filter (belongs p) (take n rows)) (cond (belongs p row) (row ∷ []) []))
-      ∙ ap (reduce min) (filter-append (within from until) (map date_of (filter (belongs p) (take n rows))) (map date_of (cond (belongs p row) (row ∷ []) [])))
-      ∙ ap (λ (xs : List ℕ). reduce min (filter (within from until) (map date_of (filter (belongs p) (take n rows))) ++ filter (within from until) xs)) (one-row row (belongs p row))
-      ∙ one-more from until (date_of row) (first_among cycle rows p from n) (belongs p row) (filter (within from until) (map date_of (filter (belongs p) (take n rows)))) (least-so-far n u (omega arith))
-      ∙ ap (before until) (sym (first_more cycle rows p from n))
-
-  pub least-date : until ≤ cycle → reduce min (filter (within from until) (map date_of (filter (belongs p) rows))) ≡ before until (first_date cycle rows p from)
-  least-date u =
-      ap (λ (xs : List Row). reduce min (filter (within from until) (map date_of (filter (belongs p) xs)))) (sym (take-length rows))
-      ∙ least-so-far (length rows) u (omega arith)
+    go : (F < until) ⊎ (until ≤ F) → then_some (ltb (min until F) until) (min until F) ≡ before until F
+    go (inl l) = let z : min until F ≡ F = omega arith in rw (z, lt-ltb F until l) refl
+    go (inr l) = let z : min until F ≡ until = omega arith in let same : until ≤ until = omega arith in rw (z, le-ltb until until same, le-ltb F until l) refl
 
 -- What is known of the first date in a span, where there is one and where there is none.
 pub found : (p : Program) (from until : ℕ) (r : Option ℕ) → until ≤ p.cycle → r ≡ before until (first_date_of p from)

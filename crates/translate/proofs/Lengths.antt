@@ -50,7 +50,7 @@ module _ (cycle : ℕ) (rows : List Row) (p : ℕ) where
       ap (rows_length cycle rows p d i) z ∙ ap (λ (k : ℕ). cond (is_due cycle rows p d i) (row_length cycle rows p i) 0 + rows_length cycle rows p d k (n - (i + 1))) y
 
   -- No block begins between a date and the first not before it.
-  none_between : (e y : ℕ) → e ≤ y → y < first_date cycle rows p e → is_date cycle rows p y ≡ false
+  pub none_between : (e y : ℕ) → e ≤ y → y < first_date cycle rows p e → is_date cycle rows p y ≡ false
   none_between e y a b = go (cases_Bool (is_date cycle rows p y))
     where
       go : (is_date cycle rows p y ≡ true) ⊎ (is_date cycle rows p y ≡ false) → is_date cycle rows p y ≡ false

@@ -2,6 +2,7 @@ pub mod Counts
 pub mod Dates
 pub mod DueRows
 pub mod Earliest
+pub mod Early
 pub mod Fills
 pub mod Judging
 pub mod Kept

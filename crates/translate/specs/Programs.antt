@@ -1,4 +1,5 @@
-use Rattle.std.specs.Prelude.{◌≡◌, ℕ, ◌+◌, zero, suc, Bool, cond, ◌==◌, Option, Some, None, List, [], ◌∷◌, ◌++◌, length}
+use Rattle.std.specs.Prelude.{◌≡◌, ℕ, ◌+◌, zero, suc, Bool, cond, ◌&&◌, ◌==◌, nat_lt, Option, Some, None, List, [], ◌∷◌, ◌++◌, length}
+use Rattle.std.specs.List.{filter, sum_by}
 use Rattle.sheet.specs.declared.row.Keep.{Keep}
 use Rattle.sheet.specs.declared.row.Row.{Row}
 use Rattle.sheet.specs.declared.row.Row.TheVariants.{Keep as keep_row, Call as call_row, Send as send_row}
@@ -8,7 +9,7 @@ use Rattle.netcode.specs.Layouts.{station_of}
 use Rattle.translate.specs.declared.code.Code.{Code}
 use Rattle.translate.specs.declared.program.Program.{Program}
 use Rattle.translate.specs.Stores.{stored}
-use Rattle.translate.specs.Translation.{is_date, first_date, rows_length, address, wait_for, rows_code, preparation, opening_length, opening, program_code}
+use Rattle.translate.specs.Translation.{tests_in, date_of, belongs, is_date, first_date, rows_length, address, wait_for, rows_code, preparation, opening_length, opening, program_code}
 
 -- The parts of the translation, of a program that is handed about as one value.
 abbrev pub first_date_of : Program → ℕ → ℕ
@@ -19,6 +20,16 @@ is_date_of p = is_date p.cycle p.rows.now p.number
 
 abbrev pub rows_length_of : Program → ℕ → ℕ
 rows_length_of p date = rows_length p.cycle p.rows.now p.number date 0 (length p.rows.now)
+
+-- How many steps a row has in a block, and how many all rows of program p with an earlier date have.
+abbrev pub steps_in : Row → ℕ
+steps_in row = length (tests_in row) + 3
+
+abbrev pub early : ℕ → ℕ → Row → Bool
+early p date row = belongs p row && nat_lt (date_of row) date
+
+abbrev pub early_steps : ℕ → List Row → ℕ → ℕ
+early_steps p rows date = sum_by steps_in (filter (early p date) rows)
 
 abbrev pub preparation_of : Program → List Step
 preparation_of p = preparation p.rows.now p.number

@@ -1,20 +1,19 @@
 ghost use Rattle.std.specs.Prelude.{◌≡◌, ℕ, ◌+◌, ◌*◌, ◌≤◌, length};
 ghost use Rattle.sheet.specs.declared.row.Keep.{Keep};
 ghost use Rattle.netcode.specs.declared.step.Step.{Step};
-ghost use Rattle.translate.specs.Programs.{rows_length_of, kept_to, preparation_of, opening_length_of, address_of, code_of};
+ghost use Rattle.translate.specs.Programs.{early_steps, kept_to, preparation_of, opening_length_of, address_of, code_of};
 
 use crate::program::Program;
-use crate::row::row_length;
+use crate::row::{date_of, row_length};
 
 impl Program<'_> {
-    // How many steps its rows of a date have.
-    pub fn rows_length(&self, date: u32) -> usize
-        ensures length { result ≡ rows_length_of self.now date }
-        ensures few { result ≤ 896 }
+    // How many steps its rows of the dates before one have.
+    fn steps_before(&self, date: u32) -> usize
+        ensures { result ≡ early_steps self.now.number self.now.rows.now date }
     {
         self.rows
             .iter()
-            .filter(|row| self.is_due(**row, date))
+            .filter(|row| self.has(**row) && date_of(**row) < date)
             .map(|row| row_length(*row))
             .sum()
     }
@@ -51,15 +50,16 @@ impl Program<'_> {
         self.preparation_length() + wait
     }
 
-    // Where its block of a date begins, or would begin.
+    // Where its block of a date begins, or would begin: behind the opening, the steps of its rows of earlier dates, and the two
+    // with which each block of these ends.
     pub fn block_address(&self, date: u32) -> usize
         requires { date ≤ self.now.cycle }
         ensures address { result ≡ address_of self.now date }
         ensures few { result ≤ 259 + 898 * date }
     {
-        let mut place = self.opening_length();
-        for earlier in self.dates(date) {
-            place += self.rows_length(earlier) + 2;
+        let mut place = self.opening_length() + self.steps_before(date);
+        for _ in self.dates(date) {
+            place += 2;
         }
         place
     }
