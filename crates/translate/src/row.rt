@@ -1,7 +1,7 @@
 ghost use Rattle.std.specs.Prelude.{◌≡◌, ◌+◌, ◌^◌, ◌<◌, ◌≤◌, length};
 ghost use Rattle.translate.specs.Translation.{date_of, end_of, tests_in};
 
-use sheet::{Condition, Row};
+use sheet::Row;
 
 // The date of a call or a send.
 pub fn date_of(row: Row) -> u32
@@ -26,25 +26,10 @@ pub fn end_of(row: Row) -> u32
     }
 }
 
-// How many tests a row has. (Told by its case: a list of them, made to be counted for each row at each wait, made a
-// translation half as long again.)
-fn test_count(row: Row) -> usize
-    ensures count { result ≡ length (tests_in row) }
-    ensures few { result ≤ 4 }
-{
-    match row.condition() {
-        Condition::Always => 0,
-        Condition::One(_) => 1,
-        Condition::Two(_, _) => 2,
-        Condition::Three(_, _, _) => 3,
-        Condition::Four(_, _, _, _) => 4,
-    }
-}
-
 // How many steps a row has in a block.
 pub fn row_length(row: Row) -> usize
     ensures length { result ≡ length (tests_in row) + 3 }
     ensures few { result ≤ 7 }
 {
-    test_count(row) + 3
+    row.condition().tests().len() + 3
 }
